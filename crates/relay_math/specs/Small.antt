@@ -1,0 +1,16 @@
+-- `f32::max`, `f32::clamp` and `u32::saturating_add` of Rust's library.
+use Prim.Native.Nat.{ℕ, min, _+_, _-_, _^_}
+use mathlib.Core.Bool.{cond}
+use lib.Ieee.{Float, isNan, lt}
+
+-- `max`: the larger, and the other where one is NaN
+unfoldable pub maxOf : Float → Float → Float
+maxOf x y = cond (isNan y) x (cond (lt y x) x y)
+
+-- `clamp`: cut to lo..hi; a NaN is below no end and above none, so it is kept
+unfoldable pub clampOf : Float → Float → Float → Float
+clampOf x lo hi = cond (lt x lo) lo (cond (lt hi x) hi x)
+
+-- `saturating_add`: the sum, at most the largest u32
+abbrev pub saturatingAddOf : ℕ → ℕ → ℕ
+saturatingAddOf a b = min (a + b) (2 ^ 32 - 1)
