@@ -24,15 +24,15 @@ at-most trigger a h t r =
     r)
 
 -- the answer is at least as severe as every raised action
-pub policy-gravest : (t : Triggers) (a : FailsafeAction) → Raised t a → severityOf a ≤ severityOf (policyActionOf t)
+pub policy-gravest : (t : Triggers) {a : FailsafeAction} → Raised t a → severityOf a ≤ severityOf (policyActionOf t)
 unfolding graverOf bumpOf policyActionOf
-policy-gravest t Hold (by-stale-offboard r) = at-most (λ t. t .«offboard_stale») Hold tt t r
-policy-gravest t Rtl (by-rc-loss r) = at-most (λ t. t .«rc_loss») Rtl tt t r
-policy-gravest t Rtl (by-datalink-loss r) = at-most (λ t. t .«datalink_loss») Rtl tt t r
-policy-gravest t Rtl (by-geofence-breach r) = at-most (λ t. t .«geofence_breach») Rtl tt t r
-policy-gravest t Rtl (by-low-battery r) = at-most (λ t. t .«low_battery») Rtl tt t r
-policy-gravest t Land (by-position-loss r) = at-most (λ t. t .«position_loss») Land tt t r
-policy-gravest t Land (by-critical-battery r) = at-most (λ t. t .«critical_battery») Land tt t r
+policy-gravest t (by-stale-offboard r) = at-most (λ t. t .«offboard_stale») Hold tt t r
+policy-gravest t (by-rc-loss r) = at-most (λ t. t .«rc_loss») Rtl tt t r
+policy-gravest t (by-datalink-loss r) = at-most (λ t. t .«datalink_loss») Rtl tt t r
+policy-gravest t (by-geofence-breach r) = at-most (λ t. t .«geofence_breach») Rtl tt t r
+policy-gravest t (by-low-battery r) = at-most (λ t. t .«low_battery») Rtl tt t r
+policy-gravest t (by-position-loss r) = at-most (λ t. t .«position_loss») Land tt t r
+policy-gravest t (by-critical-battery r) = at-most (λ t. t .«critical_battery») Land tt t r
 
 -- where position is lost the answer is Land, so never Rtl
 pub position-loss-lands : (t : Triggers) → t .«position_loss» ≡ true → policyActionOf t ≡ Land

@@ -17,6 +17,7 @@ pub enum FailsafeAction {
 }
 
 impl FailsafeAction {
+    // The place in the order of severity.
     pub fn severity(self) -> u8
         ensures { λ r. ⌜ r ≡ severityOf self ⌝ }
     {
@@ -91,6 +92,7 @@ pub struct FailsafeArbiter {
 }
 
 impl FailsafeArbiter {
+    // An arbiter with nothing latched.
     pub fn new() -> FailsafeArbiter
         ensures { λ r. ⌜ r ≡ record { latched = FailsafeAction.None } ⌝ }
     {
@@ -110,6 +112,7 @@ impl FailsafeArbiter {
         }
     }
 
+    // The action that is latched.
     pub fn action(self) -> FailsafeAction
         ensures { λ r. ⌜ r ≡ self .latched ⌝ }
     {

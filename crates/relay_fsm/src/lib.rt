@@ -1,4 +1,4 @@
-// The flight-mode state machine: modes, events, and what each event does to each mode.
+// Flight modes, events, and what each event does in each mode.
 ghost use mathlib.Core.Path.{_≡_};
 ghost use Rattle.relay_fsm.specs.Mode.{modeNumber, isMode, isAirborneOf, rankOf};
 ghost use Rattle.relay_fsm.specs.Event.{eventNumber, eventAt};
@@ -157,6 +157,7 @@ pub enum FoundEvent {
 }
 
 impl Event {
+    // How many events there are.
     pub const COUNT: u32 = 12;
 
     // The events by their numbers.
@@ -248,11 +249,13 @@ impl Transition {
     }
 }
 
+// The flight-mode state machine.
 pub struct FlightFsm {
     pub mode: Mode,
 }
 
 impl FlightFsm {
+    // The machine at the start: Disarmed.
     pub fn new() -> FlightFsm
         ensures { λ r. ⌜ r ≡ record { mode = Mode.Disarmed } ⌝ }
     {
@@ -261,12 +264,14 @@ impl FlightFsm {
         }
     }
 
+    // The present mode.
     pub fn mode(self) -> Mode
         ensures { λ r. ⌜ r ≡ self .mode ⌝ }
     {
         self.mode
     }
 
+    // Whether the present mode is airborne.
     pub fn is_airborne(self) -> bool
         ensures { λ r. ⌜ r ≡ isAirborneOf (self .mode) ⌝ }
     {
