@@ -1,0 +1,3 @@
+pub mod Mode
+pub mod Event
+pub mod Fsm
