@@ -1,8 +1,8 @@
 -- The bits of a mask: what `and`, `or`, the complement and `withBitOf` do to each of them. Assumes nothing.
 use mathlib.Core.Path.{_≡_, refl, ap, _∙_}
 use mathlib.Core.Bool.{Bool, true, false, cond, not, _&&_, _||_}
-use Prim.Native.Nat.{ℕ, zero, suc, _+_, _-_, _*_, _/_, _%_, _^_, _≤_, _<_, min, max}
-use native.Mathlib.Nat.{mod-lt, one-mul, pow-suc, div-one, zero-div, zero-lt-suc, not-suc-le-zero, lt-of-le-of-lt, le-of-suc-le-suc}
+use Prim.Native.Nat.{ℕ, zero, suc, _+_, _-_, _*_, _/_, _%_, _^_, _<_, min, max}
+use native.Mathlib.Nat.{mod-lt, one-mul, pow-suc, div-one, zero-div, not-suc-le-zero, lt-of-le-of-lt}
 use native.Mathlib.Numerals.{one-add}
 use native.Mathlib.Omega.{arith}
 use lib.Dec.{eqb, eqb·zero-suc, eqb·suc-zero, eqb·suc-suc, lit<}
@@ -10,10 +10,12 @@ use lib.Pow.{pow-lt, shl-exact, shr-shr}
 use lib.Bits.{bitAnd, bitOr, and-step, or-step, and-shr, or-shr, and-le-l, or-lt}
 use Rattle.relay_preflight.specs.Table.{bitOf, withBitOf}
 
+-- bit 0 is the remainder by 2
 pub bit-low : (m : ℕ) → bitOf m 0 ≡ eqb (m % 2) 1
 unfolding bitOf
 bit-low m = simp div-one
 
+-- halving moves every bit down by one
 pub bit-half : (m k : ℕ) → bitOf m (suc k) ≡ bitOf (m / 2) k
 unfolding bitOf
 bit-half m k = simp (shr-shr m 1 k, one-add)

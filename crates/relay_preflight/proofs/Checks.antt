@@ -1,7 +1,7 @@
 -- The checks as a finite set: what is shown at each check of `allChecks` holds of every check. Assumes nothing.
 use mathlib.Core.Path.{_≡_, refl, sym, ap, _∙_, subst}
 use mathlib.Core.Bool.{Bool, true, false, cond, _&&_}
-use mathlib.Core.List.{List, [], _∷_}
+use mathlib.Core.List.{List, [], _∷_, map}
 use Prim.Native.Nat.{ℕ, _+_, _≤_, _<_}
 use native.Mathlib.Nat.{lt-of-lt-of-le}
 use borrow.Author.Tests.{ltb-true, eqb-true}
@@ -28,6 +28,7 @@ abbrev withNumber : ℕ → List CheckId → CheckId
 withNumber n [] = SensorsHealthy
 withNumber n (x ∷ xs) = cond (eqb (checkNumber x) n) x (withNumber n xs)
 
+-- every check is in `allChecks`
 numbered : (id : CheckId) → withNumber (checkNumber id) allChecks ≡ id
 unfolding allChecks
 numbered SensorsHealthy = refl
@@ -52,6 +53,7 @@ numbered NoFailsafeLatched = refl
 numbered MotorsHealthy = refl
 numbered InsideGeofence = refl
 
+-- two checks of one number are one check
 pub number-injective : (a b : CheckId) → checkNumber a ≡ checkNumber b → a ≡ b
 number-injective a b e = sym (numbered a) ∙ ap (λ (n : ℕ). withNumber n allChecks) e ∙ numbered b
 
@@ -68,6 +70,7 @@ pub each-check : (P : CheckId → Type 0) → Each P allChecks → (id : CheckId
 unfolding allChecks
 each-check P h id = subst P (numbered id) (at-number P (h .0) allChecks h (checkNumber id))
 
+-- what holds of every check holds at each check of a list
 pub each-of : (P : CheckId → Type 0) → ((id : CheckId) → P id) → (l : List CheckId) → Each P l
 each-of P f [] = tt
 each-of P f (x ∷ xs) = (f x, each-of P f xs)
@@ -89,6 +92,7 @@ every-each f (x ∷ xs) e = let p = and-parts (f x) (every f xs) e in (p .0, eve
 computed : (f : CheckId → Bool) → every f allChecks ≡ true → (id : CheckId) → f id ≡ true
 computed f e = each-check (λ id. f id ≡ true) (every-each f allChecks e)
 
+-- a check's number is below 21
 pub number-lt : (id : CheckId) → checkNumber id < checkCount
 unfolding allChecks
 number-lt id = ltb-true (checkNumber id) checkCount (computed (λ x. ltb (checkNumber x) checkCount) refl id)
@@ -97,9 +101,16 @@ number-lt id = ltb-true (checkNumber id) checkCount (computed (λ x. ltb (checkN
 pub number-in : (w : ℕ) → checkCount ≤ w → (id : CheckId) → checkNumber id < w
 number-in w h id = lt-of-lt-of-le (number-lt id) h
 
+-- there are 21 checks in `allChecks`
 pub all-length : length allChecks ≡ checkCount
 unfolding allChecks
 all-length = refl
+
+-- the gate's order by numbers: 20 stands behind 9, and 19 behind 12
+pub all-numbers : map checkNumber allChecks
+    ≡ (0 ∷ 1 ∷ 2 ∷ 3 ∷ 4 ∷ 5 ∷ 6 ∷ 7 ∷ 8 ∷ 9 ∷ 20 ∷ 10 ∷ 11 ∷ 12 ∷ 19 ∷ 13 ∷ 14 ∷ 15 ∷ 16 ∷ 17 ∷ 18 ∷ [])
+unfolding allChecks
+all-numbers = refl
 
 -- `allChecks` holds each check exactly once
 pub all-once : (id : CheckId) → countOf (λ x. eqb (checkNumber x) (checkNumber id)) allChecks ≡ 1

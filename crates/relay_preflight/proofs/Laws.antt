@@ -12,7 +12,7 @@ use lib.Count.{ones, ones-step, ones-le}
 use lib.Bits.{and-le-l}
 use Rattle.relay_preflight.specs.Check.{checkCount, checkNumber, allChecks}
 use Rattle.relay_preflight.specs.Table.{maskLimit, bitOf, setOf, legacyPassedOf, isRequiredOf, passedOf, failsOf, failingMaskOf, outstandingOf}
-use Rattle.relay_preflight.specs.Verdict.{firstIn, armCheckTableOf, noBlocker, blockerNumber}
+use Rattle.relay_preflight.specs.Verdict.{firstIn, firstBlockerOf, noBlocker, blockerNumber}
 use Rattle.relay_preflight.specs.declared.CheckId.{CheckId}
 use Rattle.relay_preflight.specs.declared.CheckTable.{CheckTable}
 use Rattle.relay_preflight.specs.declared.TableVerdict.{TableVerdict}
@@ -55,6 +55,7 @@ set-lt w l t id b h = with-lt w (t .passed) (checkNumber id) b h (number-in w l 
 
 -- ---- checks 0..5 set passed
 
+-- what is required stays
 pub legacy-required : (t : CheckTable) → legacyPassedOf t .required ≡ t .required
 unfolding legacyPassedOf
 legacy-required t = simp set-required
@@ -78,6 +79,7 @@ pub legacy-passed : (t : CheckTable) (id : CheckId) → passedOf (legacyPassedOf
 unfolding legacyPassedOf
 legacy-passed t id = simp passed-set (below-six (checkNumber id) (passedOf t id))
 
+-- a passed mask of w bits stays one
 pub legacy-lt : (w : ℕ) → checkCount ≤ w → (t : CheckTable) → t .passed < 2 ^ w → legacyPassedOf t .passed < 2 ^ w
 unfolding legacyPassedOf
 legacy-lt w l t h =
@@ -125,8 +127,8 @@ found t id (x ∷ xs) e = go (failsOf t x) refl e (found t id xs)
         record { before = x ∷ r .before; after = r .after; place = ap (λ (l : List CheckId). x ∷ l) (r .place); fails = r .fails; others = (f, r .others) }
 
 -- a check blocks exactly where it fails and every check before it in `allChecks` does not
-pub blocked-iff : (t : CheckTable) (id : CheckId) → (armCheckTableOf t ≡ Blocked id) ↔ FirstFailing t id allChecks
-unfolding armCheckTableOf
+pub blocked-iff : (t : CheckTable) (id : CheckId) → (firstBlockerOf t ≡ Blocked id) ↔ FirstFailing t id allChecks
+unfolding firstBlockerOf
 blocked-iff t id =
     (λ e. found t id allChecks e, λ r. ap (firstIn t) (r .place) ∙ skip t id (r .before) (r .after) (r .fails) (r .others))
 
@@ -141,18 +143,19 @@ none-fails t (x ∷ xs) = (λ e. go (failsOf t x) refl e (none-fails t xs .0), �
     go false f e rest = (f, rest e)
 
 -- arming is allowed exactly where no check fails
-pub allowed-iff : (t : CheckTable) → (armCheckTableOf t ≡ Allowed) ↔ ((id : CheckId) → failsOf t id ≡ false)
-unfolding armCheckTableOf
+pub allowed-iff : (t : CheckTable) → (firstBlockerOf t ≡ Allowed) ↔ ((id : CheckId) → failsOf t id ≡ false)
+unfolding firstBlockerOf
 allowed-iff t = (
   λ e. each-check (λ x. failsOf t x ≡ false) (none-fails t allChecks .0 e),
   λ h. none-fails t allChecks .1 (each-of (λ x. failsOf t x ≡ false) h allChecks),
 )
 
--- the number of a verdict is that of no check exactly where arming is allowed
+-- a verdict's number is at most 21
 pub blocker-le : (v : TableVerdict) → blockerNumber v ≤ noBlocker
 blocker-le Allowed = le-refl noBlocker
 blocker-le (Blocked id) = le-of-lt (number-lt id)
 
+-- it is 21 exactly where arming is allowed
 pub no-blocker : (v : TableVerdict) → (blockerNumber v ≡ noBlocker) ↔ (v ≡ Allowed)
 no-blocker Allowed = (λ e. refl, λ e. refl)
 no-blocker (Blocked id) = (λ e. absurd (omega (arith, number-lt id)), λ e. let z : _≡_ {A = ℕ} 0 1 = cc in absurd (omega arith))
@@ -207,13 +210,14 @@ count-zero f (x ∷ xs) = (λ e. go (f x) refl e (count-zero f xs .0), λ h. sim
     go false e h rest = (e, rest (omega arith))
 
 -- no check is outstanding exactly where arming is allowed
-pub outstanding-zero : (t : CheckTable) → t .required < maskLimit → t .passed < 2 ^ 32 → (outstandingOf t ≡ 0) ↔ (armCheckTableOf t ≡ Allowed)
-unfolding armCheckTableOf
+pub outstanding-zero : (t : CheckTable) → t .required < maskLimit → t .passed < 2 ^ 32 → (outstandingOf t ≡ 0) ↔ (firstBlockerOf t ≡ Allowed)
+unfolding firstBlockerOf
 outstanding-zero t h l = (
   λ e. none-fails t allChecks .1 (count-zero (failsOf t) allChecks .0 (sym (outstanding-count t h l) ∙ e)),
   λ e. outstanding-count t h l ∙ count-zero (failsOf t) allChecks .1 (none-fails t allChecks .0 e),
 )
 
+-- at most every check is outstanding
 pub outstanding-le : (t : CheckTable) → t .required < maskLimit → outstandingOf t ≤ checkCount
 unfolding outstandingOf failingMaskOf
 outstanding-le t h = ones-le checkCount (failingMaskOf t) (lt-of-le-of-lt (and-le-l (t .required) _) h)

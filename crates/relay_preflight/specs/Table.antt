@@ -50,7 +50,7 @@ passedOf t id = bitOf (t .passed) (checkNumber id)
 unfoldable pub failsOf : CheckTable → CheckId → Bool
 failsOf t id = isRequiredOf t id && not (passedOf t id)
 
--- "required and not passed", at every bit of the masks
+-- "required and not passed", at every bit of the masks: the Rust's `prearm_failing_mask`
 unfoldable pub failingMaskOf : CheckTable → ℕ
 failingMaskOf t = bitAnd (t .required) (2 ^ 32 - 1 - t .passed)
 

@@ -15,8 +15,8 @@ firstIn t [] = Allowed
 firstIn t (id ∷ ids) = cond (failsOf t id) (Blocked id) (firstIn t ids)
 
 -- `arm_check_table`: "The first blocker is the first failing required check in the order of `CheckId::ALL`, not of numbers."
-unfoldable pub armCheckTableOf : CheckTable → TableVerdict
-armCheckTableOf t = firstIn t allChecks
+unfoldable pub firstBlockerOf : CheckTable → TableVerdict
+firstBlockerOf t = firstIn t allChecks
 
 -- the answer's last field: "first blocker (21 if none)"
 abbrev pub noBlocker : ℕ

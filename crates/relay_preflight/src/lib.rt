@@ -3,7 +3,7 @@ ghost use mathlib.Core.Path.{_≡_};
 ghost use Rattle.relay_preflight.specs.Check.{checkNumber};
 ghost use Rattle.relay_preflight.specs.Table.{bitOf, withBitOf, newOf, setOf, legacyPassedOf, isRequiredOf, passedOf};
 ghost use Rattle.relay_preflight.specs.Table.{failingMaskOf, outstandingOf};
-ghost use Rattle.relay_preflight.specs.Verdict.{armCheckTableOf, blockerNumber};
+ghost use Rattle.relay_preflight.specs.Verdict.{firstBlockerOf, blockerNumber};
 
 // The individual pre-arm checks.
 pub enum CheckId {
@@ -38,7 +38,7 @@ pub const NO_BLOCKER: u32 = 21;
 
 impl CheckId {
     // Every check, in the order in which the gate tries them.
-    pub const ALL: [CheckId; 21] = [
+    pub const ALL: [CheckId; CHECK_COUNT as usize] = [
         CheckId::SensorsHealthy,
         CheckId::EstimatorConverged,
         CheckId::CalibrationPresent,
@@ -118,7 +118,7 @@ pub struct CheckTable {
 
 impl CheckTable {
     // A mask of this number or more names a check that there is not.
-    pub const MASK_LIMIT: u32 = 2097152;
+    pub const MASK_LIMIT: u32 = 1 << CHECK_COUNT;
 
     // The table of the two masks that an opening gives.
     pub fn new(required: u32, passed: u32) -> CheckTable
@@ -199,10 +199,10 @@ impl TableVerdict {
 
 // Arming is blocked by the first required check that has not passed.
 pub fn arm_check_table(t: CheckTable) -> TableVerdict
-    ensures { λ r. ⌜ r ≡ armCheckTableOf t ⌝ }
+    ensures { λ r. ⌜ r ≡ firstBlockerOf t ⌝ }
 {
     let mut i = 0;
-    while i < 21 {
+    while i < CHECK_COUNT as usize {
         let id = CheckId::ALL[i];
         if t.is_required(id) & !t.passed(id) {
             return TableVerdict::Blocked(id);

@@ -7,21 +7,24 @@ use borrow.Author.Needs.{needs}
 use lib.ListN.{drop}
 use Rattle.relay_preflight.specs.Check.{allChecks, checkCount}
 use Rattle.relay_preflight.specs.Table.{failsOf}
-use Rattle.relay_preflight.specs.Verdict.{firstIn, armCheckTableOf}
+use Rattle.relay_preflight.specs.Verdict.{firstIn, firstBlockerOf}
 use Rattle.relay_preflight.specs.declared.CheckId.the-variants.{SensorsHealthy}
 use Rattle.relay_preflight.proofs.Walk.{here, next}
 use Rattle.relay_preflight.proofs.arm_check_table.Statement.{statement}
 use Rattle.relay_preflight.proofs.arm_check_table.Tie as tie
 
 abbrev Inv-loop : tie.InvT-loop
-Inv-loop t i₀ i = (i ≤ checkCount) × (firstIn t (drop i allChecks) ≡ armCheckTableOf t)
+Inv-loop t i₀ i = (i ≤ checkCount) × (firstIn t (drop i allChecks) ≡ firstBlockerOf t)
 
 abbrev μ-loop : tie.MeasureT-loop
 μ-loop t i₀ i = checkCount - i
 
 loop-holds : tie.Need-loop-holds Inv-loop μ-loop
-unfolding armCheckTableOf
+unfolding firstBlockerOf
 loop-holds c = (zero-le, refl)
+
+cast-loop : tie.Need-cast-loop Inv-loop μ-loop
+cast-loop c = search needs
 
 array-copy-out-id : tie.Need-array-copy-out-id Inv-loop μ-loop
 array-copy-out-id c = search needs
@@ -69,6 +72,7 @@ arm-check-table-spec =
     Inv-loop
     μ-loop
     loop-holds
+    cast-loop
     array-copy-out-id
     is-required-requires
     passed-requires
