@@ -1,0 +1,4 @@
+pub mod Bits
+pub mod Checks
+pub mod Laws
+pub mod Walk
