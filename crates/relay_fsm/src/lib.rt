@@ -73,7 +73,7 @@ impl Mode {
     }
 
     // Whether the mode is `other`.
-    fn is(self, other: Mode) -> bool
+    pub fn is(self, other: Mode) -> bool
         ensures { λ r. ⌜ r ≡ isMode self other ⌝ }
     {
         self.number() == other.number()
