@@ -1,1 +1,6 @@
+pub mod Examples
+pub mod Patterns
+pub mod Rounding
 pub mod Small
+pub mod Squares
+pub mod WholeRoot
