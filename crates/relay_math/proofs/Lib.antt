@@ -1,4 +1,6 @@
 pub mod Examples
+pub mod Laws
+pub mod Order
 pub mod Patterns
 pub mod Rounding
 pub mod Small
