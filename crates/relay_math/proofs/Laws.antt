@@ -1,25 +1,24 @@
 -- Laws of bits and of the root, for those who read or call. Assumes nothing.
 use mathlib.Core.Path.{_≡_, refl, sym, ap, _∙_, subst}
 use mathlib.Core.Bool.{Bool, true, false, _&&_, cond}
-use Prim.Native.Nat.{ℕ, zero, suc, _+_, _-_, _*_, _/_, _%_, _^_, _≤_, _<_, zero-le, compare, Ordering, Ordering·lt, Ordering·eq, Ordering·gt}
-use native.Mathlib.Nat.{le-trans, le-refl, le-of-eq, le-of-lt, zero-lt-suc, zero-mul, zero-div, add-le-add, mul-pos, mul-right-comm, lt-of-le-of-lt, lt-of-lt-of-le, le-add-right, add-zero, mod-lt, sub-le, suc-mul, mul-assoc, mul-mul-mul-comm, mul-le-mul, mul-le-mul-left, mul-le-mul-right, mul-lt-mul-of-pos-right, div-mul-le-self, div-lt-iff-lt-mul, lt-div-mul-add}
-use native.Mathlib.Numerals.{add-one}
+use Prim.Native.Nat.{ℕ, zero, suc, _+_, _-_, _*_, _/_, _%_, _^_, _≤_, _<_, zero-le, compare}
+use native.Mathlib.Nat.{le-trans, le-refl, le-of-eq, le-of-lt, zero-lt-suc, zero-mul, zero-div, add-le-add, mul-pos, mul-right-comm, lt-of-le-of-lt, lt-of-lt-of-le, sub-le, suc-mul, mul-le-mul-right, mul-lt-mul-of-pos-right, div-mul-le-self, div-lt-iff-lt-mul}
 use native.Mathlib.Omega.{arith}
 use lib.IntN.{ℤ, pos}
-use lib.Dec.{T, leb, ltb, eqb, eqb→eq, lt→ltb, ltb→lt, lit<, lit≤}
-use lib.Pow.{pow-pos, pow-mono, pow-add}
-use lib.Ieee.{Float, nan, inf, fin, Format, binary32, prec, up, down, size, nearest, odd, units, fits, lt, eq, le, isNan, nanBits, ofBits, toBits}
+use lib.Dec.{T, leb, ltb, eqb, eqb→eq, lt→ltb, ltb→lt, lit<}
+use lib.Pow.{pow-pos, pow-mono}
+use lib.Ieee.{Float, nan, inf, fin, Format, binary32, up, down, size, odd, units, fits, lt, eq, le, isNan, nanBits, ofBits, toBits}
 use lib.Ieee.Digits.{size-le}
 use lib.Ieee.Exact.{HasValue, odd-sign}
 use lib.Ieee.Fits.{and-l, and-r, up-pos, down-pos, nearest-le}
-use lib.Ieee.Bits.{is-true, is-false, ofBits-toBits, toBits-ofBits, nanBits-is}
+use lib.Ieee.Bits.{is-true, ofBits-toBits, toBits-ofBits, nanBits-is}
 use lib.Ieee.Order.{le-of-values}
 use lib.Ieee.Positive.{positive}
 use lib.Ieee.Scale.{finite}
 use Rattle.relay_math.specs.Root.{wholeRoot, radicand, dropped, rounded, ranged, rootOf, root}
 use Rattle.relay_math.proofs.Small.{is-nan}
-use Rattle.relay_math.proofs.Rounding.{Cmp, cmp}
 use Rattle.relay_math.proofs.Squares.{sq-lt-back}
+pub use Rattle.relay_math.proofs.Nearest.{Within, root-nearest}
 pub use Rattle.relay_math.proofs.WholeRoot.{wholeRoot-is, root-unique}
 
 -- ---- bits
@@ -38,57 +37,6 @@ written-again b h = go (nanBits binary32 b) (sym (nanBits-is binary32 b))
     go : (z : Bool) → isNan (ofBits binary32 b) ≡ z → toBits binary32 (ofBits binary32 b) ≡ cond z 0x7fc0_0000 b
     go true e = nan-bits (ofBits binary32 b) e
     go false e = toBits-ofBits binary32 b h (rw e tt)
-
--- ---- the rounding
--- r times p is within half a unit p of √n
-abbrev pub Within : ℕ → ℕ → ℕ → Type 0
-Within n r p = ((2 * r - 1) * p * ((2 * r - 1) * p) ≤ 4 * n) × (4 * n ≤ (2 * r + 1) * p * ((2 * r + 1) * p))
-
--- squares of multiples grow
-grow : (a b p : ℕ) → a ≤ b → a * p * (a * p) ≤ b * p * (b * p)
-grow a b p h = mul-le-mul (mul-le-mul-right p h) (mul-le-mul-right p h)
-
-doubled : (q p : ℕ) → 2 * q * p * (2 * q * p) ≡ 4 * (q * p * (q * p))
-doubled q p = ap (λ (x : ℕ). x * x) (mul-assoc 2 q p) ∙ mul-mul-mul-comm 2 (q * p) 2 (q * p)
-
-module _ (n q p : ℕ) (low : q * p * (q * p) ≤ n) (high : n < (q + 1) * p * ((q + 1) * p)) where
-  below : (2 * q - 1) * p * ((2 * q - 1) * p) ≤ 4 * n
-  below = le-trans (grow (2 * q - 1) (2 * q) p (sub-le (2 * q) 1)) (le-trans (le-of-eq (doubled q p)) (mul-le-mul-left 4 low))
-
-  above : 4 * n ≤ (2 * (q + 1) + 1) * p * ((2 * (q + 1) + 1) * p)
-  above = le-trans (mul-le-mul-left 4 (le-of-lt high)) (le-trans (le-of-eq (sym (doubled (q + 1) p))) (grow (2 * (q + 1)) (2 * (q + 1) + 1) p (le-add-right (2 * (q + 1)) 1)))
-
-  odd-one : 2 * (q + 1) - 1 ≡ 2 * q + 1
-  odd-one = omega arith
-
-  within-low : 4 * n ≤ (2 * q + 1) * p * ((2 * q + 1) * p) → Within n q p
-  within-low h = (below, h)
-
-  within-high : (2 * q + 1) * p * ((2 * q + 1) * p) ≤ 4 * n → Within n (q + 1) p
-  within-high h = (rw odd-one h, above)
-
-  within : (o : Ordering) → Cmp o (4 * n) ((2 * q + 1) * p * ((2 * q + 1) * p)) → Within n (nearest q o) p
-  within Ordering·lt h = within-low (le-of-lt h)
-  within Ordering·gt h = rw (sym (add-one q)) (within-high (le-of-lt h))
-  within Ordering·eq h = go (q % 2) (mod-lt q (lit< tt))
-    where
-      go : (z : ℕ) → z < 2 → Within n (q + z) p
-      go zero k = rw add-zero (within-low (le-of-eq h))
-      go (suc zero) k = within-high (le-of-eq (sym h))
-      go (suc (suc z)) k = absurd (omega arith)
-
--- for every n the rounded root is within half a unit in the last place of √n
-pub root-nearest : (f : Format) (n : ℕ) → Within n (rounded f n) (2 ^ dropped f n)
-unfolding rounded
-root-nearest f n =
-    let p = 2 ^ dropped f n in
-    let w = wholeRoot n in
-    let q = w / p in
-    let r = wholeRoot-is n in
-    let l : q * p ≤ w = div-mul-le-self w p in
-    let u : w < (q + 1) * p = lt-of-lt-of-le (lt-div-mul-add (pow-pos (dropped f n))) (le-of-eq (sym (suc-mul q p) ∙ ap (λ (x : ℕ). x * p) (sym (add-one q)))) in
-    let u' : w + 1 ≤ (q + 1) * p = le-trans (le-of-eq (add-one w)) u in
-    within n q p (le-trans (mul-le-mul l l) (r .0)) (lt-of-lt-of-le (r .1) (mul-le-mul u' u')) (compare (4 * n) ((2 * q + 1) * p * ((2 * q + 1) * p))) (cmp (4 * n) ((2 * q + 1) * p * ((2 * q + 1) * p)))
 
 -- ---- the exponent's range
 radicand-under : (x : Float) → T (fits binary32 x) → radicand binary32 x < 2 ^ 426
@@ -156,11 +104,16 @@ no-less m e h =
     let k : 0 < suc m * up e = mul-pos (zero-lt-suc m) (up-pos e) in
     omega (arith, zero-mul (down e))
 
+zeros-level : (s : Bool) (e : ℤ) → T (le Zero (fin s 0 e))
+unfolding le lt eq
+zeros-level true e = rw (zero-mul (up e), zero-mul (down e)) tt
+zeros-level false e = rw (zero-mul (up e), zero-mul (down e)) tt
+
 from-zero : (x : Float) → T (fits binary32 x) → T (finite x) → T (le Zero x) → T (finite (root x)) × T (le Zero (root x))
 unfolding rootOf
 from-zero nan h f l = absurd f
 from-zero (inf s) h f l = absurd f
-from-zero (fin s zero e) h f l = (tt, l)
+from-zero (fin s zero e) h f l = (tt, zeros-level _ _)
 from-zero (fin true (suc m) e) h f l = absurd (no-less m e l)
 from-zero (fin false (suc m) e) h f l =
     let x = fin false (suc m) e in

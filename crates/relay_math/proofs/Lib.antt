@@ -1,5 +1,6 @@
 pub mod Examples
 pub mod Laws
+pub mod Nearest
 pub mod Order
 pub mod Patterns
 pub mod Rounding

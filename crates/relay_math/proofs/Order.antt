@@ -1,8 +1,8 @@
 -- Laws of comparison, `clamp` and `max`. Assumes nothing.
-use mathlib.Core.Path.{_≡_, refl, sym, ap, _∙_, subst}
+use mathlib.Core.Path.{_≡_, refl, sym}
 use mathlib.Core.Logic.{_⊎_, inl, inr}
-use mathlib.Core.Bool.{Bool, true, false, not, cond, _&&_, _||_, Bool·beq}
-use Prim.Native.Nat.{ℕ, zero, suc, _+_, _*_, _≤_, _<_}
+use mathlib.Core.Bool.{Bool, true, false, not, cond, _&&_, _||_}
+use Prim.Native.Nat.{ℕ, _+_, _*_, _≤_, _<_}
 use native.Mathlib.Nat.{le-refl, eq-or-lt-of-le, eq-zero-or-pos}
 use native.Mathlib.Omega.{arith}
 use borrow.Author.Tests.{ltb-false, le-ltb}
@@ -90,10 +90,10 @@ pub clamp-within : (x lo hi : Float) → T (not (isNan x)) → T (not (isNan lo)
 unfolding clampOf
 clamp-within x lo hi p l h o = go (lt x lo) (lt hi x) refl refl
   where
-    go : (a b : Bool) → lt x lo ≡ a → lt hi x ≡ b → T (le lo (cond a lo (cond b hi x))) × T (le (cond a lo (cond b hi x)) hi)
-    go true b e f = (le-self lo l, o)
-    go false true e f = (o, le-self hi h)
-    go false false e f = (le-of-not-lt x lo p l e, le-of-not-lt hi x h p f)
+    go : (a b : Bool) → lt x lo ≡ a → lt hi x ≡ b → T (le lo (clampOf x lo hi)) × T (le (clampOf x lo hi) hi)
+    go true b e f = simp e (le-self lo l, o)
+    go false true e f = simp (e, f) (o, le-self hi h)
+    go false false e f = simp (e, f) (le-of-not-lt x lo p l e, le-of-not-lt hi x h p f)
 
 -- and NaN is kept
 pub clamp-keeps-nan : (lo hi : Float) → clampOf nan lo hi ≡ nan
@@ -102,7 +102,14 @@ clamp-keeps-nan lo nan = refl
 clamp-keeps-nan lo (inf s) = refl
 clamp-keeps-nan lo (fin s m e) = refl
 
--- ---- `max`: one of the two, and below neither; a NaN is passed over
+-- ---- `max`: a NaN is passed over
+pub max-passes-nan : (x y : Float) → (maxOf nan y ≡ y) × (maxOf x nan ≡ x)
+unfolding maxOf isNan lt
+max-passes-nan x nan = (refl, refl)
+max-passes-nan x (inf s) = (refl, refl)
+max-passes-nan x (fin s m e) = (refl, refl)
+
+-- one of the two, and below neither
 pub max-one-of : (x y : Float) → (maxOf x y ≡ x) ⊎ (maxOf x y ≡ y)
 unfolding maxOf
 max-one-of x y = go (isNan y) (lt y x)
@@ -116,22 +123,16 @@ pub max-not-below-first : (x y : Float) → T (not (isNan x)) → T (le x (maxOf
 unfolding maxOf
 max-not-below-first x y p = go (isNan y) (lt y x) refl refl
   where
-    go : (a b : Bool) → isNan y ≡ a → lt y x ≡ b → T (le x (cond a x (cond b x y)))
-    go true b e f = le-self x p
-    go false true e f = le-self x p
-    go false false e f = le-of-not-lt y x (rw e tt) p f
+    go : (a b : Bool) → isNan y ≡ a → lt y x ≡ b → T (le x (maxOf x y))
+    go true b e f = simp e (le-self x p)
+    go false true e f = simp (e, f) (le-self x p)
+    go false false e f = simp (e, f) (le-of-not-lt y x (rw e tt) p f)
 
 pub max-not-below-second : (x y : Float) → T (not (isNan y)) → T (le y (maxOf x y))
 unfolding maxOf
 max-not-below-second x y p = go (isNan y) (lt y x) refl refl
   where
-    go : (a b : Bool) → isNan y ≡ a → lt y x ≡ b → T (le y (cond a x (cond b x y)))
+    go : (a b : Bool) → isNan y ≡ a → lt y x ≡ b → T (le y (maxOf x y))
     go true b e f = absurd (rw e at p)
-    go false true e f = le-of-lt y x f
-    go false false e f = le-self y p
-
-pub max-passes-nan : (x y : Float) → (maxOf nan y ≡ y) × (maxOf x nan ≡ x)
-unfolding maxOf isNan lt
-max-passes-nan x nan = (refl, refl)
-max-passes-nan x (inf s) = (refl, refl)
-max-passes-nan x (fin s m e) = (refl, refl)
+    go false true e f = simp (e, f) (le-of-lt y x f)
+    go false false e f = simp (e, f) (le-self y p)

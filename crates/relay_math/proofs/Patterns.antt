@@ -1,9 +1,8 @@
 -- Which rule of the root a pattern falls under, and the radicand of a pattern above zero. Assumes nothing.
-use mathlib.Core.Path.{_≡_, refl, sym, ap, _∙_, subst}
-use mathlib.Core.Logic.{_⊎_, inl, inr}
+use mathlib.Core.Path.{_≡_, refl, sym, ap, _∙_}
 use mathlib.Core.Bool.{Bool, true, false, cond}
 use Prim.Native.Nat.{ℕ, zero, suc, _+_, _-_, _*_, _/_, _%_, _^_, _≤_, _<_}
-use native.Mathlib.Nat.{le-trans, le-of-eq, le-of-lt, lt-of-lt-of-le, lt-of-le-of-lt, lt-of-not-le, not-le-of-lt, add-sub-of-le, mod-eq-of-lt, mul-one, mul-assoc, mul-comm, mul-pos, zero-mul, mul-le-mul-right, mul-lt-mul-of-pos-right, mul-div-cancel, lt-irrefl}
+use native.Mathlib.Nat.{le-trans, le-of-eq, le-of-lt, lt-of-lt-of-le, lt-of-le-of-lt, lt-of-not-le, not-le-of-lt, add-sub-of-le, mod-eq-of-lt, mul-assoc, mul-pos, zero-mul, mul-le-mul-right, mul-lt-mul-of-pos-right, mul-div-cancel}
 use native.Mathlib.Decide.{decLe}
 use native.Mathlib.Omega.{arith}
 use lib.IntN.{ℤ}

@@ -1,20 +1,19 @@
 -- The rounded root of n * 4 ^ j from the whole root of an n of 47 or 48 digits, and its pattern. Assumes nothing.
-use mathlib.Core.Path.{_≡_, refl, sym, ap, _∙_, subst}
-use mathlib.Core.Bool.{Bool, true, false, not, cond}
-use Prim.Native.Nat.{ℕ, zero, suc, _+_, _-_, _*_, _/_, _^_, _≤_, _<_, compare, Ordering, Ordering·lt, Ordering·eq, Ordering·gt}
-use native.Mathlib.Nat.{le-trans, le-of-eq, lt-of-le-of-lt, lt-of-lt-of-le, le-refl, le-of-lt, le-add-right, lt-of-not-le, not-le-of-lt, le-antisymm, zero-add, mul-le-mul, mul-mul-mul-comm, mul-assoc, mul-comm, mul-le-mul-right, mul-lt-mul-of-pos-right, mul-pos, mul-div-cancel, div-eq-of-lt-le, pow-succ'}
+use mathlib.Core.Path.{_≡_, sym, ap, _∙_, subst}
+use mathlib.Core.Bool.{true, false}
+use Prim.Native.Nat.{ℕ, suc, _+_, _-_, _*_, _/_, _^_, _≤_, _<_}
+use native.Mathlib.Nat.{le-trans, le-of-eq, lt-of-le-of-lt, lt-of-lt-of-le, le-refl, le-of-lt, le-add-right, lt-of-not-le, not-le-of-lt, le-antisymm, zero-add, mul-le-mul, mul-mul-mul-comm, mul-one, le-of-mul-le-mul-right, mul-assoc, mul-le-mul-right, mul-lt-mul-of-pos-right, mul-pos, mul-div-cancel, div-eq-of-lt-le}
 use native.Mathlib.Omega.{arith}
-use lib.Dec.{T, leb, ltb, eqb, isLe, isEq, leb→le, nleb→lt, eqb→eq, eqb-refl, lt→ltb, lit<, lit≤}
-use lib.Arith.{lt-of-le-ne}
-use native.Mathlib.Numerals.{add-one}
-use lib.Pow.{pow-add, pow-pos, pow-mono, shl-lt}
-use lib.Ieee.{Float, nan, inf, fin, binary32, up, down, size, nearest, odd, units, ofBits, toBits}
-use lib.Ieee.Digits.{Equals, size-lt, size-le, odd-val}
+use lib.Dec.{ltb, lt→ltb, lit<, lit≤}
+use lib.Pow.{pow-add, pow-pos, pow-mono}
+use lib.Ieee.{Float, nan, inf, fin, binary32, up, down, size, odd, units, ofBits, toBits}
+use lib.Ieee.Digits.{size-lt, size-le}
 use lib.Ieee.Exact.{HasValue, odd-sign}
 use lib.Ieee.Fits.{down-pos, odd-fits}
 use lib.Ieee.Bits.{is-true, ofBits-toBits}
 use Rattle.relay_math.specs.Root.{wholeRoot, dropped, rounded, ranged}
-use Rattle.relay_math.proofs.Squares.{odd-sq, sq-lt-back}
+use Rattle.relay_math.proofs.Nearest.{Within, root-nearest}
+use Rattle.relay_math.proofs.Squares.{sq-suc, odd-sq, sq-lt-back}
 use Rattle.relay_math.proofs.WholeRoot.{IsRoot, wholeRoot-is}
 
 -- the whole root of n * (p * p), with p dropped, is that of n
@@ -55,67 +54,44 @@ digits a j q l u al au =
     cut : (x : ℕ) → suc (23 + x) - 24 ≡ x
     cut x = omega arith
 
--- what an Ordering says
-abbrev pub Cmp : Ordering → ℕ → ℕ → Type 0
-Cmp Ordering·lt a b = a < b
-Cmp Ordering·eq a b = a ≡ b
-Cmp Ordering·gt a b = b < a
-
-pub cmp : (a b : ℕ) → Cmp (compare a b) a b
-cmp a b = go (compare a b) (leb→le a b) (nleb→lt a b) (eqb→eq a b) (λ (e : a ≡ b). subst (λ (x : ℕ). T (eqb a x)) e (eqb-refl a))
-  where
-    go : (o : Ordering) → (T (isLe o) → a ≤ b) → (T (not (isLe o)) → b < a) → (T (isEq o) → a ≡ b) → (a ≡ b → T (isEq o)) → Cmp o a b
-    go Ordering·lt h k e n = lt-of-le-ne (h tt) n
-    go Ordering·eq h k e n = e tt
-    go Ordering·gt h k e n = k tt
-
-compare-lt : (a b : ℕ) → a < b → compare a b ≡ Ordering·lt
-compare-lt a b h = go (compare a b) (cmp a b)
-  where
-    go : (o : Ordering) → Cmp o a b → o ≡ Ordering·lt
-    go Ordering·lt k = refl
-    go Ordering·eq k = absurd (omega arith)
-    go Ordering·gt k = absurd (omega arith)
-
-compare-gt : (a b : ℕ) → b < a → compare a b ≡ Ordering·gt
-compare-gt a b h = go (compare a b) (cmp a b)
-  where
-    go : (o : Ordering) → Cmp o a b → o ≡ Ordering·gt
-    go Ordering·lt k = absurd (omega arith)
-    go Ordering·eq k = absurd (omega arith)
-    go Ordering·gt k = refl
+-- a number within half a unit of √(n * (p * p)) is one within half of √n, without p
+unscaled : (n r p : ℕ) → 0 < p → Within (n * (p * p)) r p → Within n r 1
+unscaled n r p pp h =
+    let s : 4 * (n * (p * p)) ≡ 4 * n * (p * p) = sym (mul-assoc 4 n (p * p)) in
+    let a = 2 * r - 1 in
+    let b = 2 * r + 1 in (
+      subst (λ (x : ℕ). x * x ≤ 4 * n) (sym (mul-one a)) (le-of-mul-le-mul-right (le-trans (le-of-eq (mul-mul-mul-comm a a p p)) (le-trans (h .0) (le-of-eq s))) (mul-pos pp pp)),
+      subst (λ (x : ℕ). 4 * n ≤ x * x) (sym (mul-one b)) (le-of-mul-le-mul-right (le-trans (le-of-eq (sym s)) (le-trans (h .1) (le-of-eq (mul-mul-mul-comm b p b p)))) (mul-pos pp pp)),
+    )
 
 -- √n is below q + 1 / 2 where n is at most q * q + q, and above it otherwise
-half-less : (n q p : ℕ) → 0 < p → n ≤ q * q + q → 4 * (n * (p * p)) < (2 * q + 1) * p * ((2 * q + 1) * p)
-half-less n q p pp h =
-    let small : 4 * n < (2 * q + 1) * (2 * q + 1) = omega (arith, odd-sq q) in
-    lt-of-le-of-lt (le-of-eq (sym (mul-assoc 4 n (p * p)))) (lt-of-lt-of-le (mul-lt-mul-of-pos-right small (mul-pos pp pp)) (le-of-eq (mul-mul-mul-comm (2 * q + 1) (2 * q + 1) p p)))
+pick-down : (n q r : ℕ) → IsRoot n q → n ≤ q * q + q → Within n r 1 → r ≡ q
+pick-down n q r i h w =
+    let a : 2 * r - 1 < 2 * q + 1 = sq-lt-back (2 * r - 1) (2 * q + 1) (lt-of-le-of-lt (rw mul-one at (w .0)) (omega (arith, odd-sq q))) in
+    let b : 2 * q < 2 * r + 1 + 1 = sq-lt-back (2 * q) (2 * r + 1 + 1) (omega (arith, mul-mul-mul-comm 2 q 2 q, sq-suc (2 * r + 1), rw mul-one at (w .1), i .0)) in
+    omega arith
 
-half-more : (n q p : ℕ) → 0 < p → q * q + q < n → (2 * q + 1) * p * ((2 * q + 1) * p) < 4 * (n * (p * p))
-half-more n q p pp h =
-    let large : (2 * q + 1) * (2 * q + 1) < 4 * n = omega (arith, odd-sq q) in
-    lt-of-le-of-lt (le-of-eq (mul-mul-mul-comm (2 * q + 1) p (2 * q + 1) p)) (lt-of-lt-of-le (mul-lt-mul-of-pos-right large (mul-pos pp pp)) (le-of-eq (mul-assoc 4 n (p * p))))
-
--- the nearest whole number to √n / 2 ^ k, q being the whole one below
-abbrev near : ℕ → ℕ → ℕ → ℕ
-near n k q = nearest q (compare (4 * n) ((2 * q + 1) * 2 ^ k * ((2 * q + 1) * 2 ^ k)))
+pick-up : (n q r : ℕ) → IsRoot n q → q * q + q < n → Within n r 1 → r ≡ q + 1
+pick-up n q r i h w =
+    let a : 2 * q + 1 < 2 * r + 1 = sq-lt-back (2 * q + 1) (2 * r + 1) (lt-of-lt-of-le (omega (arith, odd-sq q)) (rw mul-one at (w .1))) in
+    let b : 2 * r - 1 < 2 * (q + 1) = sq-lt-back (2 * r - 1) (2 * (q + 1)) (lt-of-le-of-lt (rw mul-one at (w .0)) (omega (arith, mul-mul-mul-comm 2 (q + 1) 2 (q + 1), i .1))) in
+    omega arith
 
 module _ (n q j : ℕ) (r : IsRoot n q) (l : 2 ^ 23 ≤ q) (u : q < 2 ^ 24) where
   dropped-is : dropped binary32 (n * (2 ^ j * 2 ^ j)) ≡ j
   unfolding dropped
   dropped-is = digits (wholeRoot (n * (2 ^ j * 2 ^ j))) j q l u (lower n q (2 ^ j) r (pow-pos j)) (upper n q (2 ^ j) r (pow-pos j))
 
-  rounded-at : rounded binary32 (n * (2 ^ j * 2 ^ j)) ≡ near (n * (2 ^ j * 2 ^ j)) j q
-  unfolding rounded
-  rounded-at =
+  rounded-within : Within n (rounded binary32 (n * (2 ^ j * 2 ^ j))) 1
+  rounded-within =
       let N = n * (2 ^ j * 2 ^ j) in
-      ap (λ (k : ℕ). near N k (wholeRoot N / 2 ^ k)) dropped-is ∙ ap (near N j) (root-div n q (2 ^ j) r (pow-pos j))
+      unscaled n (rounded binary32 N) (2 ^ j) (pow-pos j) (subst (λ (k : ℕ). Within N (rounded binary32 N) (2 ^ k)) dropped-is (root-nearest binary32 N))
 
   rounded-down : n ≤ q * q + q → rounded binary32 (n * (2 ^ j * 2 ^ j)) ≡ q
-  rounded-down h = rounded-at ∙ ap (nearest q) (compare-lt (4 * (n * (2 ^ j * 2 ^ j))) ((2 * q + 1) * 2 ^ j * ((2 * q + 1) * 2 ^ j)) (half-less n q (2 ^ j) (pow-pos j) h))
+  rounded-down h = pick-down n q (rounded binary32 (n * (2 ^ j * 2 ^ j))) r h rounded-within
 
-  rounded-up : q * q + q < n → rounded binary32 (n * (2 ^ j * 2 ^ j)) ≡ suc q
-  rounded-up h = rounded-at ∙ ap (nearest q) (compare-gt (4 * (n * (2 ^ j * 2 ^ j))) ((2 * q + 1) * 2 ^ j * ((2 * q + 1) * 2 ^ j)) (half-more n q (2 ^ j) (pow-pos j) h))
+  rounded-up : q * q + q < n → rounded binary32 (n * (2 ^ j * 2 ^ j)) ≡ q + 1
+  rounded-up h = pick-up n q (rounded binary32 (n * (2 ^ j * 2 ^ j))) r h rounded-within
 
 -- below the format's end
 in-range : (r j : ℕ) → r ≤ 2 ^ 24 → j ≤ 190 → r * 2 ^ j < 2 ^ 277
@@ -186,4 +162,4 @@ module _ (n q j : ℕ) (a : 2 ^ 46 ≤ n) (b : n ≤ 2 ^ 48 - 2 ^ 24) (c : j ≤
   up-bits h =
       let l = root-low n q a (r .1) in
       let u = root-high n q b (r .0) in
-      (root-up n q b h, pattern-is n q j (q + 1) r l u c (le-trans l (le-add-right q 1)) (root-up n q b h) (rounded-up n q j r l u h ∙ sym (add-one q)))
+      (root-up n q b h, pattern-is n q j (q + 1) r l u c (le-trans l (le-add-right q 1)) (root-up n q b h) (rounded-up n q j r l u h))

@@ -1,8 +1,7 @@
 -- Squares of whole numbers, and what a step of Newton's method towards a root gives. Assumes nothing.
-use mathlib.Core.Path.{_≡_, sym, ap, _∙_, subst}
-use mathlib.Core.Logic.{_⊎_, inl, inr}
-use Prim.Native.Nat.{ℕ, zero, suc, _+_, _*_, _/_, _^_, _≤_, _<_}
-use native.Mathlib.Nat.{le-of-lt, lt-of-not-le, not-le-of-lt, lt-suc-self, le-dest, add-mul, mul-add, mul-comm, mul-mul-mul-comm, mul-le-mul, mul-le-mul-right, div-lt-iff-lt-mul}
+use mathlib.Core.Path.{_≡_, subst}
+use Prim.Native.Nat.{ℕ, zero, suc, _+_, _*_, _/_, _≤_, _<_}
+use native.Mathlib.Nat.{le-of-lt, lt-of-not-le, not-le-of-lt, lt-suc-self, le-dest, add-mul, mul-add, mul-assoc, mul-comm, mul-mul-mul-comm, mul-le-mul, mul-le-mul-right, div-lt-iff-lt-mul}
 use native.Mathlib.Decide.{decLe}
 use native.Mathlib.Omega.{arith}
 
@@ -41,9 +40,6 @@ newton-above n g p =
     let twice : g + suc q ≤ 2 * m = omega arith in
     let wide : (g + suc q) * g ≤ 2 * m * g = mul-le-mul-right g twice in
     let parts = add-mul g (suc q) g in
-    let pair : 2 * m * g ≡ 2 * (m * g) = mul-assoc' m g in
+    let pair = mul-assoc 2 m g in
     let most = products m g in
     omega arith
-  where
-    mul-assoc' : (a b : ℕ) → 2 * a * b ≡ 2 * (a * b)
-    mul-assoc' a b = omega (arith, add-mul a a b)

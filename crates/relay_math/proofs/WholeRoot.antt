@@ -1,5 +1,5 @@
 -- `wholeRoot n` is the q with q * q ≤ n < (q + 1) * (q + 1), and the only one. Assumes nothing.
-use mathlib.Core.Path.{_≡_, sym, subst}
+use mathlib.Core.Path.{_≡_}
 use mathlib.Core.Bool.{Bool, true, false, not, cond}
 use Prim.Native.Nat.{ℕ, zero, suc, _+_, _*_, _/_, _^_, _≤_, _<_}
 use native.Mathlib.Nat.{lt-of-le-of-lt, lt-of-lt-of-le, pow-suc, pow-le-pow-left, div-lt-iff-lt-mul}

@@ -1,5 +1,5 @@
 -- `closer`: the sum of an estimate and a quotient fits, and a step is never below the whole root.
-use Prim.Native.Nat.{ℕ, _+_, _*_, _/_, _^_, _≤_, _<_}
+use Prim.Native.Nat.{ℕ, _/_, _^_, _≤_, _<_}
 use native.Mathlib.Nat.{lt-of-lt-of-le, mul-le-mul-left, div-lt-iff-lt-mul}
 use native.Mathlib.Omega.{arith}
 use borrow.Author.Needs.{needs}

@@ -1,11 +1,8 @@
 -- `packed`: the whole root has 24 digits, and stays below 2 ^ 24 where it is rounded up; so its pattern is the exponent's field and the digits, added.
-use Prim.Native.Nat.{ℕ, _+_, _-_, _*_, _^_, _≤_, _<_}
-use mathlib.Core.Path.{_≡_}
+use Prim.Native.Nat.{_^_, _≤_, _<_}
 use native.Mathlib.Nat.{add-assoc}
 use native.Mathlib.Omega.{arith}
 use borrow.Author.Needs.{needs}
-use lib.Ieee.{binary32, ofBits}
-use Rattle.relay_math.specs.Root.{ranged}
 use Rattle.relay_math.proofs.Rounding.{root-fits, down-bits, up-bits}
 use Rattle.relay_math.proofs.root.packed.Statement.{statement}
 use Rattle.relay_math.proofs.root.packed.Tie as tie
@@ -26,10 +23,10 @@ mul-result : tie.Need-mul-result
 mul-result c = search needs
 
 add-result : tie.Need-add-result
-add-result c = search needs
+add-result c = omega (arith, fits (c .before))
 
 add-result-2 : tie.Need-add-result-2
-add-result-2 c = search needs
+add-result-2 c = omega (arith, fits (c .before))
 
 cast-result : tie.Need-cast-result
 cast-result c = omega (arith, fits (c .before))
@@ -37,7 +34,7 @@ cast-result c = omega (arith, fits (c .before))
 returns : tie.Need-returns
 returns c =
     let s = c .before .before in
-    let u = up-bits (s .args .n) (c .before .whole-root .result) (s .args .j) (s .pre .0) (s .pre .1) (s .pre .2) (c .before .whole-root .ensures) (c .if1 .taken) in
+    let u = up-bits (s .args .n) (c .before .whole-root .result) (s .args .j) (s .pre .0) (s .pre .1) (s .pre .2) (c .before .whole-root .ensures) (omega arith) in
     rw add-assoc (u .1, omega (arith, u .0))
 
 mul-result-2 : tie.Need-mul-result-2
@@ -52,7 +49,7 @@ cast-result-2 c = omega (arith, fits (c .before))
 returns-2 : tie.Need-returns-2
 returns-2 c =
     let s = c .before .before in
-    let d = down-bits (s .args .n) (c .before .whole-root .result) (s .args .j) (s .pre .0) (s .pre .1) (s .pre .2) (c .before .whole-root .ensures) (c .if1 .left) in
+    let d = down-bits (s .args .n) (c .before .whole-root .result) (s .args .j) (s .pre .0) (s .pre .1) (s .pre .2) (c .before .whole-root .ensures) (omega arith) in
     (d, omega (arith, fits (c .before)))
 
 pub packed-spec : {M : Type 1} → statement M

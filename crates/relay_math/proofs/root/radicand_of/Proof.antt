@@ -1,13 +1,11 @@
 -- `radicand_of`: the digits of a normal number with its leading one, those of a subnormal number shifted until there are 24.
-use Prim.Native.Nat.{ℕ, _+_, _-_, _*_, _/_, _%_, _^_, _≤_, _<_}
-use mathlib.Core.Path.{_≡_, sym, ap, _∙_}
+use Prim.Native.Nat.{ℕ, _-_, _*_, _%_, _^_, _≤_, _<_}
+use mathlib.Core.Path.{_≡_}
 use native.Mathlib.Nat.{lt-of-lt-of-le, mod-eq-of-lt}
 use native.Mathlib.Omega.{arith}
 use borrow.Author.Needs.{needs}
 use lib.Dec.{lit≤}
 use lib.Count.{leadingZeros}
-use lib.Ieee.{binary32, ofBits}
-use Rattle.relay_math.specs.Root.{radicand}
 use Rattle.relay_math.proofs.Patterns.{zeros, radicand-normal, radicand-subnormal}
 use Rattle.relay_math.proofs.root.radicand_of.Statement.{statement}
 use Rattle.relay_math.proofs.root.radicand_of.Tie as tie

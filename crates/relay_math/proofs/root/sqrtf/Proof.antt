@@ -1,13 +1,13 @@
 -- `sqrtf`: x is the float of its pattern, and each pattern falls under one rule of `root`.
-use Prim.Native.Nat.{ℕ, _+_, _-_, _*_, _/_, _%_, _^_, _≤_, _<_}
+use Prim.Native.Nat.{_%_, _^_, _<_}
 use mathlib.Core.Path.{_≡_, refl, sym, ap, _∙_, subst}
 use native.Mathlib.Omega.{arith}
 use borrow.Author.Needs.{needs}
 use lib.Dec.{T}
-use lib.Ieee.{Float, nan, binary32, fits, isNan, ofBits, toBits}
+use lib.Ieee.{Float, nan, binary32, div, ofBits, toBits}
 use lib.Ieee.Bits.{ofBits-toBits, toBits-lt}
-use Rattle.relay_math.specs.Root.{root, rootOf, radicand, ranged}
-use Rattle.relay_math.proofs.Small.{ne-self, is-nan, invalid-nan, no-nan-pattern}
+use Rattle.relay_math.specs.Root.{root, rootOf, ranged}
+use Rattle.relay_math.proofs.Small.{ne-self, is-nan, no-nan-pattern}
 use Rattle.relay_math.proofs.Patterns.{Even, evened, root-of-zero, root-of-large, root-of-minus, root-of-bits}
 use Rattle.relay_math.proofs.root.sqrtf.Statement.{statement}
 use Rattle.relay_math.proofs.root.sqrtf.Tie as tie
@@ -35,9 +35,8 @@ returns-2 c =
     sym (rw (back s) at (root-of-zero (toBits binary32 (s .args .x)) (under s) (c .if2 .taken)))
 
 returns-3 : tie.Need-returns-3
-returns-3 c =
-    let s = c .before .before .before in
-    invalid-nan ∙ sym (rw (back s) at (root-of-minus (toBits binary32 (s .args .x)) (c .if3 .taken) (under s)))
+unfolding div ofBits
+returns-3 c = let s = c .before .before .before in rw (rw (back s) at (root-of-minus (toBits binary32 (s .args .x)) (c .if3 .taken) (under s))) refl
 
 returns-4 : tie.Need-returns-4
 returns-4 c =
