@@ -77,7 +77,7 @@ fn packed(n: u64, j: u64) -> u32
     (j * 0x80_0000 + q) as u32
 }
 
-// The square root, rounded to nearest even.
+// The square root, rounded to nearest even: operands of their own rule, the radicand, its root and the rounding. The exponent's range needs no step: `root-in-range`.
 pub fn sqrtf(x: f32) -> f32
     ensures { λ r. ⌜ r ≡ root x ⌝ }
 {
