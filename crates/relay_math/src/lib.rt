@@ -5,6 +5,10 @@ ghost use lib.Ieee.{binary32, ofBits, toBits};
 ghost use lib.Ieee.Scale.{finite};
 ghost use Rattle.relay_math.specs.Small.{maxOf, clampOf, saturatingAddOf};
 
+mod root;
+
+pub use root::sqrtf;
+
 // The f32 of a pattern. Every NaN pattern is read as NaN.
 pub fn from_bits(b: u32) -> f32
     ensures { λ r. ⌜ r ≡ ofBits binary32 b ⌝ }
