@@ -1,0 +1,5 @@
+pub mod Curve
+pub mod Config
+pub mod Latch
+pub mod Estimator
+pub mod Battery
