@@ -1,1 +1,5 @@
 mod Walk
+mod Order
+mod NonNeg
+mod Finite
+pub mod CurveBounds

@@ -3,3 +3,4 @@ pub mod Config
 pub mod Latch
 pub mod Estimator
 pub mod Battery
+pub mod Bounds
