@@ -1,14 +1,13 @@
 -- The curve is in 0..1 for every float, and 0 up to 3.50 V and for what is not finite.
 -- On a segment it is at most its value at the segment's end, since each operation grows with the volts. What is asked of a segment is a list of tests
 -- that are computed. Assumes nothing.
-use mathlib.Core.Path.{_≡_, refl, sym, subst}
+use mathlib.Core.Path.{_≡_, refl}
 use mathlib.Core.Bool.{Bool, true, false, _&&_, _||_, cond}
 use mathlib.Core.List.{List, [], _∷_}
-use Prim.Native.Nat.{ℕ, zero, suc, _*_, _≤_, zero-le}
+use Prim.Native.Nat.{ℕ, zero, _*_, zero-le}
 use native.Mathlib.Nat.{zero-mul}
 use native.Mathlib.Omega.{arith}
 use lib.Dec.{T}
-use lib.ListN.{getD}
 use denote.Floats.{is-true}
 use lib.Ieee.{Float, nan, inf, fin, binary32, ofBits, up, down, add, sub, mul, div, lt, le, eq}
 use lib.Ieee.Fits.{and-l, and-r}
@@ -105,8 +104,10 @@ walk-within a (b ∷ l) t {v} p f h = go (le v (b .v)) refl (λ (k : T (le (b .v
   where
     good : T (all (tests a b))
     good = and-l (all (tests a b)) (goodFrom b l) t
+
     at-end : NonNeg (b .v)
     at-end = nonneg-is (b .v) (each (tests a b) good 1)
+
     go : (x : Bool) → le v (b .v) ≡ x → (T (le (b .v) v) → Within curve.zero one (walk v b l)) → Within curve.zero one (cond x (between a b v) (walk v b l))
     go true e further = segment-within a b good p h (rw e tt)
     go false e further = further (le-of-not-le v (b .v) f (nonneg-finite at-end) e)
@@ -126,6 +127,7 @@ table-within (a ∷ l) t v f = go (le v (a .v)) refl
   where
     start : NonNeg (a .v)
     start = nonneg-is (a .v) (and-l (nonneg (a .v)) (goodFrom a l) t)
+
     go : (x : Bool) → le v (a .v) ≡ x → Within curve.zero one (cond x curve.zero (walk v a l))
     go true e = zero-within
     go false e = walk-within a l (and-r (nonneg (a .v)) (goodFrom a l) t) (nonneg-above v f start e) f (le-of-not-le v (a .v) f (nonneg-finite start) e)

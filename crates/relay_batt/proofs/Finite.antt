@@ -1,22 +1,21 @@
 -- An f32 and at most one second more is finite: the largest f32 and 1.0 more rounds to the largest f32. Assumes nothing.
-use mathlib.Core.Path.{_≡_, refl, sym, ap, _∙_, subst}
-use mathlib.Core.Logic.{_⊎_, inl, inr}
-use mathlib.Core.Bool.{Bool, true, false, not, _&&_, _||_, cond, Bool·beq}
+use mathlib.Core.Path.{_≡_, sym, ap, _∙_, subst}
+use mathlib.Core.Bool.{Bool, true, false, not, _&&_, cond, Bool·beq}
 use Prim.Native.Nat.{ℕ, zero, suc, _+_, _-_, _*_, _^_, _%_, _≤_, _<_, zero-le}
-use native.Mathlib.Nat.{le-refl, le-trans, le-of-eq, le-of-lt, lt-of-mul-lt-mul-right, sub-add-cancel, lt-of-lt-of-le, one-mul, mul-one, zero-mul, mul-comm, mul-assoc, mul-right-comm, mul-le-mul, mul-le-mul-right, le-of-mul-le-mul-right, mul-pos, add-mul, sub-le}
+use native.Mathlib.Nat.{le-refl, le-trans, le-of-eq, le-of-lt, lt-of-mul-lt-mul-right, sub-add-cancel, one-mul, mul-one, zero-mul, mul-comm, mul-assoc, mul-le-mul, mul-le-mul-right, mul-pos, add-mul, sub-le}
 use native.Mathlib.Omega.{arith}
 use lib.IntN.{ℤ, pos, negsuc}
 use lib.Dec.{T, ltb, leb, eqb, ltb→lt, leb→le, nleb→lt, eqb→eq, lit≤, lit<}
 use lib.Pow.{pow-add, pow-pos, pow-mono}
 use lib.Ieee.{Float, nan, inf, fin, Format, binary32, prec, low, up, down, ofBits, odd, units, round, sum, add, le, fits}
-use lib.Ieee.Fits.{down-pos, and-l, and-r, round-is, add-fits}
+use lib.Ieee.Fits.{down-pos, and-l, and-r, round-is}
 use lib.Ieee.Order.{drop, kept}
 use lib.Ieee.Positive.{num, den}
 use lib.Ieee.Scale.{finite, overflow}
 use Rattle.relay_batt.specs.Curve as curve
 use Rattle.relay_batt.specs.Bounds.{Within}
 use Rattle.relay_batt.proofs.Order.{within-finite}
-use Rattle.relay_batt.proofs.NonNeg.{NonNeg, plus, nonneg, nonneg-is, nonneg-finite, Kept, rounded, le→cross}
+use Rattle.relay_batt.proofs.NonNeg.{NonNeg, plus, nonneg-is, nonneg-finite, rounded, le→cross}
 
 -- ---- a rounded fraction below a finite one is finite, whatever its sign
 odd-finite : (d : ℕ) (s : Bool) (q k l : ℕ) → T (finite (odd d s q k l))
@@ -109,16 +108,22 @@ add-small f (fin s n e) (fin t o d) m p q h k g = go (Bool·beq s t) (ltb a b)
   where
     a : ℕ
     a = n * up e * down d
+
     b : ℕ
     b = o * up d * down e
+
     c : ℕ
     c = down e * down d
+
     a-le : a ≤ m * c
     a-le = le-trans (mul-le-mul-right (down d) h) (le-of-eq (mul-assoc m (down e) (down d)))
+
     b-le : b ≤ c
     b-le = le-trans (mul-le-mul-right (down e) k) (le-of-eq (mul-comm (down d) (down e)))
+
     small : (u : Bool) (z : ℕ) → z ≤ a + b → T (finite (round f u z c))
     small u z l = round-finite f u z c (m + 1) 1 (mul-pos (down-pos e) (down-pos d)) (lit< tt) (together a b c m a-le b-le z l) g
+
     go : (x y : Bool) → T (finite (cond x (round f s (a + b) c) (cond y (round f t (b - a) c) (round f (s && ltb b a) (a - b) c))))
     go true y = small s (a + b) (le-refl (a + b))
     go false true = small t (b - a) (le-trans (sub-le b a) (right a b))

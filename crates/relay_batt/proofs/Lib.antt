@@ -2,4 +2,9 @@ mod Walk
 mod Order
 mod NonNeg
 mod Finite
+mod Examples
 pub mod CurveBounds
+pub mod Sound
+pub mod SoundTest
+pub mod Stays
+pub mod Fits

@@ -1,16 +1,16 @@
 -- Finite floats with the sign +, zero included: their order is that of fractions, and differences, products, quotients and sums grow with
 -- one operand as long as the larger result is finite. Assumes nothing.
-use mathlib.Core.Path.{_≡_, refl, sym, ap, _∙_, subst}
+use mathlib.Core.Path.{_≡_, refl, sym, _∙_, subst}
 use mathlib.Core.Logic.{_⊎_, inl, inr}
 use mathlib.Core.Bool.{Bool, true, false, not, _&&_, _||_, cond}
 use Prim.Native.Nat.{ℕ, zero, suc, _+_, _-_, _*_, _^_, _≤_, _<_}
-use native.Mathlib.Nat.{zero-lt-suc, le-trans, le-of-eq, le-of-lt, not-le-of-lt, mul-comm, mul-assoc, mul-left-comm, mul-right-comm, mul-le-mul-right, mul-pos, mul-sub, mul-mul-mul-comm, add-mul, sub-le}
+use native.Mathlib.Nat.{zero-lt-suc, le-trans, le-of-eq, le-of-lt, not-le-of-lt, mul-comm, mul-assoc, mul-left-comm, mul-le-mul-right, mul-pos, mul-sub, mul-mul-mul-comm, add-mul}
 use native.Mathlib.Omega.{arith}
 use lib.IntN.{ℤ}
-use lib.Dec.{T, ltb, eqb, eqb→eq, ltb→lt, lt→ltb, nltb→le, eqb·suc-zero}
-use lib.Ieee.{Float, nan, inf, fin, Format, prec, low, emax, up, down, odd, units, round, sum, add, sub, mul, div, lt, le}
+use lib.Dec.{T, ltb, eqb, eqb→eq, ltb→lt, eqb·suc-zero}
+use lib.Ieee.{Float, nan, inf, fin, Format, prec, low, up, down, odd, units, round, sum, add, sub, mul, div, le}
 use lib.Ieee.Fits.{up-pos, down-pos, and-l, round-is}
-use lib.Ieee.Order.{le-of-values, round-mono, drop, kept}
+use lib.Ieee.Order.{round-mono, drop, kept}
 use lib.Ieee.Positive.{num, den, den-pos, through}
 use lib.Ieee.Scale.{finite, overflow}
 use Rattle.relay_batt.proofs.Order.{le-test}

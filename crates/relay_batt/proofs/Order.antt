@@ -1,12 +1,12 @@
 -- The order of finite floats: it is total, and a cut to lo..hi ends between lo and hi. Assumes nothing.
-use mathlib.Core.Path.{_≡_, refl, sym, ap, subst}
-use mathlib.Core.Logic.{_⊎_, inl, inr}
-use mathlib.Core.Bool.{Bool, true, false, not, _&&_, _||_, cond, Bool·beq}
+use mathlib.Core.Path.{_≡_, refl, sym, subst}
+use mathlib.Core.Logic.{inl, inr}
+use mathlib.Core.Bool.{Bool, true, false, _&&_, _||_, cond}
 use mathlib.Core.List.{List, [], _∷_}
-use Prim.Native.Nat.{ℕ, zero, suc, _+_, _*_, _≤_, _<_}
-use native.Mathlib.Nat.{le-refl, eq-or-lt-of-le}
+use Prim.Native.Nat.{ℕ, zero, suc, _+_, _*_, _≤_}
+use native.Mathlib.Nat.{eq-or-lt-of-le}
 use native.Mathlib.Omega.{arith}
-use lib.Dec.{T, ltb, eqb, eqb-refl, ltb→lt, lt→ltb, nltb→le, eqb→eq}
+use lib.Dec.{T, ltb, eqb, eqb-refl, lt→ltb, nltb→le}
 use lib.ListN.{getD}
 use lib.Ieee.{Float, nan, inf, fin, up, down, below, level, lt, le}
 use lib.Ieee.Fits.{and-l, and-r}
@@ -29,9 +29,6 @@ same a b t = go (eqb a a) (eqb-refl a)
     go : (x : Bool) → T x → T (x && b)
     go true u = t
     go false u = absurd u
-
-true-or : (b : Bool) → T (true || b)
-true-or b = tt
 
 -- a ≤ b, as the comparison of two floats of one sign tests it
 pub le-test : (a b : ℕ) (z : Bool) → T z → a ≤ b → T (ltb a b || (eqb a b && z))

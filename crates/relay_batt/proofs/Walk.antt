@@ -1,8 +1,8 @@
 -- The walk along the table, by the place that it has reached. Assumes nothing.
 use mathlib.Core.Path.{_≡_, refl}
 use mathlib.Core.Bool.{true, false}
-use mathlib.Core.List.{List, [], _∷_}
-use Prim.Native.Nat.{ℕ, suc, _+_, _-_, _<_, _≤_}
+use mathlib.Core.List.{List}
+use Prim.Native.Nat.{ℕ, suc, _+_, _-_, _<_}
 use native.Mathlib.Numerals.{add-one}
 use native.Mathlib.Omega.{arith}
 use lib.ListN.{length, getD, drop}
@@ -32,7 +32,3 @@ passed l v i h e =
 pub ended : (v : Float) → rest knots v 8 ≡ one
 unfolding walk knots
 ended v = refl
-
-pub eight : length knots ≡ 8
-unfolding knots
-eight = refl

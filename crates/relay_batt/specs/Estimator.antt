@@ -1,12 +1,10 @@
 -- `BattState` and `BatteryEstimator` of relay-batt.
-use Prim.Native.Nat.{ℕ}
 use mathlib.Core.Bool.{Bool, true, false, cond, not, _&&_}
 use lib.Ieee.{Float, binary32, add, sub, mul, div, neg, lt, le}
 use Rattle.relay_batt.specs.Curve.{f32, zero, one, sanitizeOf, ocvSocCellOf}
 use Rattle.relay_batt.specs.Config.{rInternal, capacityOf, cellsOf}
 use Rattle.relay_batt.specs.Latch.{newLatchOf, tripOf}
 use Rattle.relay_batt.specs.declared.config.BattConfig.{BattConfig}
-use Rattle.relay_batt.specs.declared.latch.TripLatch.{TripLatch}
 use Rattle.relay_batt.specs.declared.estimator.BattState.{BattState}
 use Rattle.relay_batt.specs.declared.estimator.BatteryEstimator.{BatteryEstimator}
 use Rattle.relay_batt.specs.declared.estimator.Updated.{Updated}

@@ -1,5 +1,5 @@
 -- `TripLatch` of relay-batt.
-use mathlib.Core.Bool.{Bool, true, false, cond}
+use mathlib.Core.Bool.{Bool, false, cond}
 use lib.Ieee.{Float, binary32, add, le}
 use Rattle.relay_batt.specs.Curve.{zero}
 use Rattle.relay_batt.specs.declared.latch.TripLatch.{TripLatch}

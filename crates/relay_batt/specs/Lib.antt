@@ -4,3 +4,5 @@ pub mod Latch
 pub mod Estimator
 pub mod Battery
 pub mod Bounds
+pub mod Sound
+pub mod Fits

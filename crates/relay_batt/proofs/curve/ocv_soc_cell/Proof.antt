@@ -1,13 +1,10 @@
 -- `ocv_soc_cell` is `ocvSocCellOf`. The loop's invariant: what is found from the place i on is the answer.
-use Prim.Native.Nat.{_≤_, _<_, _-_}
-use mathlib.Core.Path.{_≡_, refl, sym, ap, _∙_}
-use mathlib.Core.Bool.{true, false}
+use Prim.Native.Nat.{_≤_, _-_}
+use mathlib.Core.Path.{_≡_, sym, ap, _∙_}
 use native.Mathlib.Omega.{arith}
-use lib.ListN.{length, getD}
-use lib.Ieee.{Float, le}
 use borrow.Author.Needs.{needs}
 use Rattle.relay_batt.specs.Curve.{knots, tableOf, ocvSocCellOf}
-use Rattle.relay_batt.proofs.Walk.{noKnot, rest, found, passed, ended, eight}
+use Rattle.relay_batt.proofs.Walk.{rest, found, passed, ended}
 use Rattle.relay_batt.proofs.curve.ocv_soc_cell.Statement.{statement}
 use Rattle.relay_batt.proofs.curve.ocv_soc_cell.Tie as tie
 

@@ -6,18 +6,18 @@ use Rattle.relay_batt.proofs.latch.TripLatch.update.Tie as tie
 
 returns : tie.Need-returns
 unfolding tripOf
-returns c = simp (c .if1 .taken)
+returns c = rw (c .if1 .taken)
 
 returns-2 : tie.Need-returns-2
 unfolding tripOf
-returns-2 c = simp (c .before .before .if1 .left, c .before .if2 .taken)
+returns-2 c = rw (c .before .before .if1 .left, c .before .if2 .taken)
 
 new-requires : tie.Need-new-requires
 new-requires c κs = search needs
 
 returns-3 : tie.Need-returns-3
 unfolding tripOf
-returns-3 c = simp (c .before .before .if1 .left, c .before .if2 .left, c .new .ensures)
+returns-3 c = rw (c .before .before .if1 .left, c .before .if2 .left, c .new .ensures)
 
 pub update-spec : {M : Type 1} → statement M
 update-spec = tie.close (tie.spec returns returns-2 new-requires returns-3)
