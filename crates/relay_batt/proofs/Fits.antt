@@ -1,7 +1,7 @@
 -- The floats of a battery stay f32 values. Each operation's result fits, so only the readings that are cut and what is kept need a word. Assumes nothing.
-use mathlib.Core.Bool.{Bool, true, false, _&&_, cond}
+use mathlib.Core.Bool.{Bool, _&&_, cond}
 use mathlib.Core.List.{List, [], _∷_}
-use lib.Ieee.{Float, binary32, add, sub, div, le, lt}
+use lib.Ieee.{Float, binary32, sub, div, le, lt}
 use lib.Ieee.Bits.{ofBits-fits}
 use lib.Ieee.Fits.{cond-fits, add-fits, sub-fits, div-fits}
 use lib.Ieee.Scale.{finite}
@@ -9,7 +9,7 @@ use Rattle.relay_math.specs.Small.{clampOf}
 use Rattle.relay_batt.specs.Curve as curve
 use Rattle.relay_batt.specs.Curve.{sanitizeOf, knots, between, walk, tableOf, cellMax, ocvSocCellOf}
 use Rattle.relay_batt.specs.Config.{capacityMin, capacityMax, capacityMah, rInternal, defaultOf, forOpeningVoltsOf, capacityOf, cellsOf}
-use Rattle.relay_batt.specs.Latch.{newLatchOf, excursionOf, tripOf}
+use Rattle.relay_batt.specs.Latch.{tripOf}
 use Rattle.relay_batt.specs.Estimator.{vMax, iMax, rMin, rMax, noneOf, shownOf, newOf, consumedOf, bigStepOf, blendOf, rEstOf, restOf, socCoulombOf, socOf, withAmpsOf, voltsOnlyOf, cutDt, cutVolts, cutAmps, updateAmpsOf, updateVoltsOf}
 use Rattle.relay_batt.specs.Battery.{openedOf, heardOf, updateOf}
 use Rattle.relay_batt.specs.Fits.{Fit, FitConfig, FitEstimator, FitBattery, FitReading}
@@ -20,6 +20,7 @@ use Rattle.relay_batt.specs.declared.estimator.BatteryEstimator.{Battery
 use Rattle.relay_batt.specs.declared.battery.Battery.{Battery}
 use Rattle.relay_batt.specs.declared.battery.Reading.{Reading}
 use Rattle.relay_batt.specs.declared.battery.Reading.the-variants.{Nothing, Volts, VoltsAmps}
+use Rattle.relay_batt.proofs.Trip.{trip-holds}
 
 zero-fits : Fit curve.zero
 zero-fits = ofBits-fits binary32 0
@@ -65,13 +66,7 @@ r-fits : (r : Float) → Fit r → Fit (sanitizeOf r rMin rMax rInternal)
 r-fits r f = sanitize-fits r rMin rMax rInternal f (ofBits-fits binary32 _) (ofBits-fits binary32 _) (ofBits-fits binary32 _)
 
 trip-fits : (l : TripLatch) (dt : Float) (below : Bool) (debounce : Float) → Fit (l .«below_s») → Fit (tripOf l dt below debounce .«below_s»)
-unfolding tripOf
-trip-fits l dt below debounce h = go (l .latched) below
-  where
-    go : (x y : Bool) → Fit (cond x l (cond y (excursionOf (add binary32 (l .«below_s») dt) debounce) newLatchOf) .«below_s»)
-    go true y = h
-    go false true = add-fits binary32 (l .«below_s») dt
-    go false false = zero-fits
+trip-fits l dt below debounce h = trip-holds (λ (x : TripLatch). Fit (x .«below_s»)) l dt below debounce h (add-fits binary32 (l .«below_s») dt) zero-fits
 
 consumed-fits : (e : BatteryEstimator) (dt i : Float) → FitConfig (e .cfg) → Fit (consumedOf e dt i)
 unfolding consumedOf

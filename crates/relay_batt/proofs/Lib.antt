@@ -2,6 +2,7 @@ mod Walk
 mod Order
 mod NonNeg
 mod Finite
+mod Trip
 mod Examples
 pub mod CurveBounds
 pub mod Sound

@@ -1,12 +1,12 @@
 -- The battery's bounds, at every place of every list of turns from an opening. Assumes nothing.
 use mathlib.Core.Path.{_≡_, refl, sym, ap, _∙_, subst}
-use mathlib.Core.Bool.{Bool, true, false, _&&_, cond, true≢false}
+use mathlib.Core.Bool.{Bool, true, false, _&&_, true≢false}
 use mathlib.Core.List.{List, [], _∷_}
 use Prim.Native.Nat.{ℕ, zero, suc, _*_, _<_}
 use native.Mathlib.Nat.{mul-pos, zero-lt-suc}
 use native.Mathlib.Omega.{arith}
 use lib.Dec.{T, eqb, eqb→eq}
-use lib.Ieee.{Float, nan, inf, fin, binary32, ofBits, fits, up, down, add, sub, div, lt, le}
+use lib.Ieee.{Float, nan, inf, fin, binary32, ofBits, fits, up, down, sub, div, lt, le}
 use lib.Ieee.Fits.{up-pos, down-pos, and-r, add-fits}
 use lib.Ieee.Scale.{finite}
 use Rattle.relay_math.specs.Small.{clampOf}
@@ -27,6 +27,7 @@ use Rattle.relay_batt.specs.declared.battery.Reading.the-variants.{Nothi
 use Rattle.relay_batt.proofs.Order.{within-finite, sanitize-within, cond-within}
 use Rattle.relay_batt.proofs.NonNeg.{NonNeg, plus, Positive, above, positive-is}
 use Rattle.relay_batt.proofs.Finite.{later-finite}
+use Rattle.relay_batt.proofs.Trip.{trip-holds}
 use Rattle.relay_batt.proofs.CurveBounds.{curve-within, zero-le-nonneg}
 
 -- ---- the capacity
@@ -82,13 +83,10 @@ unfolding ofBits fits
 zero-held = record { finite-here = tt; fits-here = tt }
 
 trip-held : (l : TripLatch) (dt : Float) (below : Bool) (debounce : Float) → Held (l .«below_s») → Within curve.zero one dt → Held (tripOf l dt below debounce .«below_s»)
-unfolding tripOf
-trip-held l dt below debounce h w = go (l .latched) below
-  where
-    go : (x y : Bool) → Held (cond x l (cond y (record { «below_s» = add binary32 (l .«below_s») dt; latched = le debounce (add binary32 (l .«below_s») dt) }) (record { «below_s» = curve.zero; latched = false })) .«below_s»)
-    go true y = h
-    go false true = record { finite-here = later-finite (l .«below_s») dt (h .finite-here) (h .fits-here) w; fits-here = add-fits binary32 (l .«below_s») dt }
-    go false false = zero-held
+trip-held l dt below debounce h w =
+    trip-holds (λ (x : TripLatch). Held (x .«below_s»)) l dt below debounce h
+    record { finite-here = later-finite (l .«below_s») dt (h .finite-here) (h .fits-here) w; fits-here = add-fits binary32 (l .«below_s») dt }
+    zero-held
 
 pub consumed-within : (e : BatteryEstimator) (dt i : Float) → Within curve.zero (capacityOf (e .cfg)) (consumedOf e dt i)
 unfolding consumedOf ofBits
