@@ -70,13 +70,13 @@ pub cut-amps : (amps : Float) → Within curve.zero iMax (cutAmps amps)
 unfolding ofBits le
 cut-amps amps = sanitize-within amps curve.zero iMax curve.zero tt tt tt tt
 
-volts-finite : (x : Float) → Within curve.zero vMax x → T (finite x)
+volts-is-finite : (x : Float) → Within curve.zero vMax x → T (finite x)
 unfolding ofBits
-volts-finite x w = within-finite curve.zero vMax x tt tt w
+volts-is-finite x w = within-finite curve.zero vMax x tt tt w
 
-amps-finite : (x : Float) → Within curve.zero iMax x → T (finite x)
+amps-is-finite : (x : Float) → Within curve.zero iMax x → T (finite x)
 unfolding ofBits
-amps-finite x w = within-finite curve.zero iMax x tt tt w
+amps-is-finite x w = within-finite curve.zero iMax x tt tt w
 
 zero-held : Held curve.zero
 unfolding ofBits fits
@@ -128,8 +128,8 @@ amps-sound e dt v i s d p q = record {
   estimator = record {
     used = consumed-within e dt i;
     resistance = r-est-within e v i (s .resistance);
-    volts-before = volts-finite v p;
-    amps-before = amps-finite i q;
+    volts-before = volts-is-finite v p;
+    amps-before = amps-is-finite i q;
     low-time = trip-held (e .low) dt _ _ (s .low-time) d;
     critical-time = trip-held (e .critical) dt _ _ (s .critical-time) d;
   };
@@ -250,22 +250,51 @@ bounds volts l =
       nothing-shown-bound = s .shown .nothing-shown;
     }
 
--- ---- the state shown is finite
+-- ---- every number shown is finite
+used-is-finite : (cfg : BattConfig) (x : Float) → Within curve.zero (capacityOf cfg) x → T (finite x)
+unfolding ofBits
+used-is-finite cfg x w = within-finite curve.zero (capacityOf cfg) x tt (capacity-finite cfg) w
+
+charge-is-finite : (x : Float) → Within curve.zero one x → T (finite x)
+unfolding ofBits
+charge-is-finite x w = within-finite curve.zero one x tt tt w
+
+resistance-is-finite : (x : Float) → Within rMin rMax x → T (finite x)
+unfolding ofBits
+resistance-is-finite x w = within-finite rMin rMax x tt tt w
+
 pub finite-new : (cfg : BattConfig) → FiniteState (openedOf cfg .state)
 unfolding openedOf noneOf
-finite-new cfg = record { volts-shown = zero-held .finite-here; rest-shown = zero-held .finite-here; amps-shown = zero-held .finite-here }
+finite-new cfg =
+    let z = zero-held .finite-here in
+    record { volts-finite = z; rest-finite = z; amps-finite = z; used-finite = z; charge-finite = z; resistance-finite = z }
 
-pub finite-update : (b : Battery) (dt : Float) (r : Reading) → FiniteState (b .state) → FiniteState (updateOf b dt r .state)
+pub finite-update : (b : Battery) (dt : Float) (r : Reading) → Sound b → FiniteState (b .state) → FiniteState (updateOf b dt r .state)
 unfolding updateOf heardOf updateVoltsOf updateAmpsOf voltsOnlyOf withAmpsOf shownOf
-finite-update b dt Nothing s = s
-finite-update b dt (Volts volts) s = let f = volts-finite (cutVolts volts) (cut-volts volts) in record { volts-shown = f; rest-shown = f; amps-shown = zero-held .finite-here }
-finite-update b dt (VoltsAmps volts amps) s = record {
-  volts-shown = volts-finite (cutVolts volts) (cut-volts volts);
-  rest-shown = volts-finite _ (rest-within (cutVolts volts) (cutAmps amps) _);
-  amps-shown = amps-finite (cutAmps amps) (cut-amps amps);
-}
+finite-update b dt Nothing s f = f
+finite-update b dt (Volts volts) s f =
+    let v = volts-is-finite (cutVolts volts) (cut-volts volts) in
+    record {
+      volts-finite = v;
+      rest-finite = v;
+      amps-finite = zero-held .finite-here;
+      used-finite = used-is-finite (b .est .cfg) (b .est .«consumed_mah») (s .estimator .used);
+      charge-finite = charge-is-finite _ (curve-within _);
+      resistance-finite = resistance-is-finite (b .est .«r_est») (s .estimator .resistance);
+    }
+finite-update b dt (VoltsAmps volts amps) s f =
+    let v = cutVolts volts in
+    let i = cutAmps amps in
+    record {
+      volts-finite = volts-is-finite v (cut-volts volts);
+      rest-finite = volts-is-finite _ (rest-within v i (rEstOf (b .est) v i));
+      amps-finite = amps-is-finite i (cut-amps amps);
+      used-finite = used-is-finite (b .est .cfg) _ (consumed-within (b .est) (cutDt dt) i);
+      charge-finite = charge-is-finite _ (soc-within (b .est .cfg) _ _);
+      resistance-finite = resistance-is-finite _ (r-est-within (b .est) v i (s .estimator .resistance));
+    }
 
-pub finite-run : (b : Battery) (l : List Turn) → FiniteState (b .state) → FiniteState (runOf b l .state)
+pub finite-run : (b : Battery) (l : List Turn) → Sound b → FiniteState (b .state) → FiniteState (runOf b l .state)
 unfolding runOf
-finite-run b [] s = s
-finite-run b (t ∷ l) s = finite-run (updateOf b (t .dt) (t .reading)) l (finite-update b (t .dt) (t .reading) s)
+finite-run b [] s f = f
+finite-run b (t ∷ l) s f = finite-run (updateOf b (t .dt) (t .reading)) l (sound-update b (t .dt) (t .reading) s) (finite-update b (t .dt) (t .reading) s f)

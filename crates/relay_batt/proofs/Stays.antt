@@ -1,11 +1,12 @@
 -- What stays from turn to turn: a latch that has tripped, a flag shown that is its latch, and all but the silence under no reading. Assumes nothing.
 use mathlib.Core.Path.{_≡_, refl}
-use mathlib.Core.Bool.{Bool, true}
+use mathlib.Core.Bool.{Bool, true, false}
 use mathlib.Core.List.{List, [], _∷_, _++_}
 use lib.Ieee.{Float}
 use Rattle.relay_batt.specs.Latch.{tripOf}
-use Rattle.relay_batt.specs.Estimator.{shownOf, withAmpsOf, voltsOnlyOf, updateAmpsOf, updateVoltsOf}
-use Rattle.relay_batt.specs.Battery.{heardOf, updateOf, Turn, runOf}
+use Rattle.relay_batt.specs.Estimator.{noneOf, newOf, shownOf, withAmpsOf, voltsOnlyOf, updateAmpsOf, updateVoltsOf}
+use Rattle.relay_batt.specs.Battery.{openedOf, heardOf, updateOf, Turn, runOf}
+use Rattle.relay_batt.specs.declared.config.BattConfig.{BattConfig}
 use Rattle.relay_batt.specs.declared.latch.TripLatch.{TripLatch}
 use Rattle.relay_batt.specs.declared.battery.Battery.{Battery}
 use Rattle.relay_batt.specs.declared.battery.Reading.{Reading}
@@ -50,6 +51,19 @@ unfolding updateOf heardOf updateVoltsOf updateAmpsOf voltsOnlyOf withAmpsOf sho
 critical-shown b dt Nothing e = e
 critical-shown b dt (Volts volts) e = refl
 critical-shown b dt (VoltsAmps volts amps) e = refl
+
+-- ---- the opening: nothing seen, nothing shown, no latch set
+pub opened-state : (cfg : BattConfig) → openedOf cfg .state ≡ noneOf
+unfolding openedOf
+opened-state cfg = refl
+
+pub opened-flags : (cfg : BattConfig) → (openedOf cfg .seen ≡ false) × (openedOf cfg .present ≡ false) × (openedOf cfg .est .low .latched ≡ false) × (openedOf cfg .est .critical .latched ≡ false)
+unfolding openedOf newOf
+opened-flags cfg = (refl, refl, refl, refl)
+
+pub none-flags : (noneOf .low ≡ false) × (noneOf .critical ≡ false) × (noneOf .degraded ≡ false)
+unfolding noneOf
+none-flags = (refl, refl, refl)
 
 -- ---- no reading
 pub nothing-keeps : (b : Battery) (dt : Float) → (updateOf b dt Nothing .est ≡ b .est) × (updateOf b dt Nothing .state ≡ b .state) × (updateOf b dt Nothing .seen ≡ b .seen)

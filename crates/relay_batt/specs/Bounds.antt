@@ -4,6 +4,7 @@ use mathlib.Core.List.{List, [], _∷_}
 use lib.Dec.{T}
 use lib.Ieee.{Float, le}
 
+-- lo ≤ x ≤ hi
 pub record Within (lo hi x : Float) : Type 0 where
   pub low : T (le lo x)
   pub high : T (le x hi)

@@ -7,6 +7,7 @@ use lib.Ieee.{Float, binary32, sub, div, ofInt}
 use Rattle.relay_batt.specs.Curve.{f32, one, sanitizeOf}
 use Rattle.relay_batt.specs.declared.config.BattConfig.{BattConfig}
 
+-- 5000 mAh
 abbrev pub capacityMah : Float
 capacityMah = f32 0x459c_4000
 
@@ -14,9 +15,11 @@ capacityMah = f32 0x459c_4000
 abbrev pub packCells : ℕ
 packCells = 4
 
+-- 0.024 ohm
 abbrev pub rInternal : Float
 rInternal = f32 0x3cc4_9ba6
 
+-- "Latches trip at 2.0 s below"
 abbrev pub debounceS : Float
 debounceS = f32 0x4000_0000
 
@@ -48,6 +51,7 @@ forOpeningVoltsOf volts =
       «debounce_s» = defaultOf .«debounce_s»;
     }
 
+-- 1 mAh and 1e6 mAh, between which a capacity is cut
 abbrev pub capacityMin : Float
 capacityMin = one
 

@@ -11,9 +11,11 @@ use Rattle.relay_batt.specs.declared.curve.Knot.{Knot}
 abbrev pub f32 : ℕ → Float
 f32 b = ofBits binary32 b
 
+-- 0.0
 abbrev pub zero : Float
 zero = f32 0
 
+-- 1.0
 abbrev pub one : Float
 one = f32 0x3f80_0000
 
@@ -21,6 +23,7 @@ one = f32 0x3f80_0000
 unfoldable pub sanitizeOf : Float → Float → Float → Float → Float
 sanitizeOf x lo hi d = clampOf (cond (finite x) x d) lo hi
 
+-- a pair of the table, by the bits of its volts and of its charge
 abbrev pub knot : ℕ → ℕ → Knot
 knot v s = record { v = f32 v; s = f32 s }
 
@@ -51,6 +54,7 @@ unfoldable pub tableOf : List Knot → Float → Float
 tableOf [] v = zero
 tableOf (a ∷ l) v = cond (le v (a .v)) zero (walk v a l)
 
+-- 5.0 V, the most that a cell is taken to have
 abbrev pub cellMax : Float
 cellMax = f32 0x40a0_0000
 

@@ -9,7 +9,7 @@ use Rattle.relay_batt.specs.declared.estimator.BattState.{BattState}
 use Rattle.relay_batt.specs.declared.estimator.BatteryEstimator.{BatteryEstimator}
 use Rattle.relay_batt.specs.declared.estimator.Updated.{Updated}
 
--- ---- the limits
+-- ---- the limits: `V_MAX`, `I_MAX`, `DT_MAX`, `R_MIN`, `R_MAX`, `R_STEP_MIN_A`, `R_ALPHA`
 
 abbrev pub vMax : Float
 vMax = f32 0x4270_0000
@@ -160,12 +160,15 @@ voltsOnlyOf e dt v =
     }
     v v zero (ocvSocCellOf cell) true
 
+-- "each dt cut to 0..1 (0 if not finite)"
 abbrev pub cutDt : Float → Float
 cutDt dt = sanitizeOf dt zero dtMax zero
 
+-- `v` of `update`
 abbrev pub cutVolts : Float → Float
 cutVolts volts = sanitizeOf volts zero vMax zero
 
+-- `i` of `update`
 abbrev pub cutAmps : Float → Float
 cutAmps amps = sanitizeOf amps zero iMax zero
 

@@ -35,6 +35,7 @@ pub record SoundState (cfg : BattConfig) (seen : Bool) (s : BattState) : Type 0 
   pub resistance-shown : seen ≡ true → Within rMin rMax (s .«r_est»)
   pub nothing-shown : seen ≡ false → s ≡ noneOf
 
+-- both, and each flag shown is its latch
 pub record Sound (b : Battery) : Type 0 where
   pub estimator : SoundEstimator (b .est)
   pub shown : SoundState (b .est .cfg) (b .seen) (b .state)
@@ -61,10 +62,11 @@ nothingTests s =
     ∷ not (s .degraded)
     ∷ []
 
+-- "all zero and false"
 unfoldable pub nothingShown : BattState → Bool
 nothingShown s = all (nothingTests s)
 
--- `SoundEstimator`
+-- the tests of `SoundEstimator`
 abbrev pub estimatorTests : BatteryEstimator → List Bool
 estimatorTests e =
     within zero (capacityOf (e .cfg)) (e .«consumed_mah»)
@@ -75,17 +77,19 @@ estimatorTests e =
     ∷ finite (e .critical .«below_s»)
     ∷ []
 
+-- all of them
 unfoldable pub soundEstimatorOf : BatteryEstimator → Bool
 soundEstimatorOf e = all (estimatorTests e)
 
--- `SoundState`
+-- the tests of `SoundState`
 abbrev pub stateTests : BattConfig → Bool → BattState → List Bool
 stateTests cfg seen s = within zero one (s .soc) ∷ within zero (capacityOf cfg) (s .«consumed_mah») ∷ cond seen (within rMin rMax (s .«r_est»)) (nothingShown s) ∷ []
 
+-- all of them
 unfoldable pub soundStateOf : BattConfig → Bool → BattState → Bool
 soundStateOf cfg seen s = all (stateTests cfg seen s)
 
--- `Sound`
+-- the tests of `Sound`
 abbrev pub batteryTests : Battery → List Bool
 batteryTests b =
     soundEstimatorOf (b .est)
@@ -94,6 +98,7 @@ batteryTests b =
     ∷ Bool·beq (b .state .critical) (b .est .critical .latched)
     ∷ []
 
+-- all of them
 unfoldable pub soundOf : Battery → Bool
 soundOf b = all (batteryTests b)
 
@@ -106,8 +111,11 @@ pub record InBounds (b : Battery) : Type 0 where
   pub resistance-shown-bound : b .seen ≡ true → Within (f32 0x3a83_126f) (f32 0x3e4c_cccd) (b .state .«r_est»)
   pub nothing-shown-bound : b .seen ≡ false → b .state ≡ noneOf
 
--- volts, resting volts and amps shown are finite
+-- every number shown is finite
 pub record FiniteState (s : BattState) : Type 0 where
-  pub volts-shown : T (finite (s .volts))
-  pub rest-shown : T (finite (s .«rest_volts»))
-  pub amps-shown : T (finite (s .«current_a»))
+  pub volts-finite : T (finite (s .volts))
+  pub rest-finite : T (finite (s .«rest_volts»))
+  pub amps-finite : T (finite (s .«current_a»))
+  pub used-finite : T (finite (s .«consumed_mah»))
+  pub charge-finite : T (finite (s .soc))
+  pub resistance-finite : T (finite (s .«r_est»))
