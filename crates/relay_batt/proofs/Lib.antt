@@ -1,0 +1,11 @@
+mod Walk
+mod Order
+mod NonNeg
+mod Finite
+mod Trip
+mod Examples
+pub mod CurveBounds
+pub mod Sound
+pub mod SoundTest
+pub mod Stays
+pub mod Fits
