@@ -1,0 +1,149 @@
+//! The profile `wild`: random bit patterns in every float, commands in any order, and damaged lines of every sort.
+
+use super::{event, float, End, Generator, OpeningLine, Step, TickLine};
+use crate::relay_fsm::Mode;
+
+/// A float that is wild once in `n` times and else between two limits.
+fn mixed(g: &mut Generator, n: u64, low: f32, high: f32) -> f32 {
+    if g.random.one_in(n) {
+        float::any(&mut g.random)
+    } else {
+        g.random.between(low, high)
+    }
+}
+
+/// An opening and what follows it.
+pub fn stretch(g: &mut Generator) -> Step {
+    let wildness = g.random.pick(&[1, 2, 4, 20, 100]);
+    if !g.random.one_in(8) {
+        opening(g, wildness)?;
+    }
+    for _ in 0..5 + g.random.below(200) {
+        if g.random.one_in(3) {
+            urge(g)?;
+        }
+        match g.random.below(20) {
+            0 => points(g, wildness)?,
+            1 => zones(g, wildness)?,
+            2..=4 => {
+                let event = g.random.below(12) as u32;
+                let event = if event == 11 && !g.random.one_in(8) { 10 } else { event };
+                let flags = [0, 1].map(|_| u32::from(!g.random.one_in(6)));
+                g.numbers(&[4, event, flags[0], flags[1]])?;
+            }
+            5 => {
+                let flag = g.random.below(2) as u32;
+                g.numbers(&[3, flag])?;
+            }
+            _ => {
+                let tick = tick(g, wildness);
+                let failed = g.random.one_in(10);
+                if g.random.one_in(10) {
+                    g.tick(&tick)?;
+                } else {
+                    g.fly(&tick, failed)?;
+                }
+            }
+        }
+        if g.mode() == Mode::Terminated && g.random.one_in(4) {
+            break;
+        }
+    }
+    Ok(())
+}
+
+/// A command that leads on to flying.
+fn urge(g: &mut Generator) -> Result<(), End> {
+    let next = match g.mode() {
+        Mode::Disarmed => event::ARM,
+        Mode::Armed => event::TAKEOFF,
+        Mode::Takeoff => event::REACHED_ALTITUDE,
+        Mode::Loiter => event::MISSION,
+        Mode::Mission => event::LOITER,
+        Mode::Rtl | Mode::Land | Mode::Terminated => return Ok(()),
+    };
+    if g.shuttle.report_due() {
+        let flag = u32::from(g.random.one_in(10));
+        g.numbers(&[3, flag])?;
+    }
+    g.command(next)
+}
+
+fn opening(g: &mut Generator, wildness: u64) -> Step {
+    let mask = |g: &mut Generator| match g.random.below(4) {
+        0 => g.random.below(1 << 21) as u32,
+        1 => 1 << g.random.below(21),
+        _ => 0,
+    };
+    let line = OpeningLine {
+        home: [0, 1, 2].map(|_| mixed(g, wildness, -5.0, 5.0)),
+        fence: mixed(g, wildness, 5.0, 300.0),
+        cruise: mixed(g, wildness, 2.0, 40.0),
+        low_volts: mixed(g, wildness, 13.0, 15.0),
+        required: mask(g),
+        passed: mask(g),
+        calibrated: g.random.below(2) as u32,
+    };
+    g.open(line)
+}
+
+fn tick(g: &mut Generator, wildness: u64) -> TickLine {
+    let flag = |g: &mut Generator| u32::from(g.random.one_in(8));
+    let (volts, amps) = match g.random.below(3) {
+        0 => (None, None),
+        1 => (Some(mixed(g, wildness, 12.0, 17.0)), None),
+        _ => (Some(mixed(g, wildness, 12.0, 17.0)), Some(mixed(g, wildness, 0.0, 200.0))),
+    };
+    TickLine {
+        dt: mixed(g, wildness, 0.0, 1.5),
+        p: [
+            mixed(g, wildness, -20.0, 20.0),
+            mixed(g, wildness, -20.0, 20.0),
+            mixed(g, wildness, -30.0, 1.0),
+        ],
+        v: [0, 1, 2].map(|_| mixed(g, wildness, -2.0, 2.0)),
+        tilt: mixed(g, wildness, 0.0, 1.2),
+        uncertainty: mixed(g, wildness, 0.0, 0.04),
+        motor: mixed(g, wildness, 0.5, 1.2),
+        nav: flag(g),
+        gnss: flag(g),
+        failed: flag(g),
+        rpm: g.random.below(2) as u32,
+        volts,
+        amps,
+    }
+}
+
+fn points(g: &mut Generator, wildness: u64) -> Step {
+    let n = match g.random.below(6) {
+        0 => 0,
+        1 => 15 + g.random.below(4),
+        2 => g.random.below(43),
+        _ => 1 + g.random.below(4),
+    };
+    let rare = wildness * (n + 1);
+    let points: Vec<[f32; 3]> = (0..n)
+        .map(|_| [mixed(g, rare, -4.0, 4.0), mixed(g, rare, -4.0, 4.0), mixed(g, rare, -30.0, -6.0)])
+        .collect();
+    g.points(&points)
+}
+
+fn zones(g: &mut Generator, wildness: u64) -> Step {
+    let n = match g.random.below(6) {
+        0 => 0,
+        1 => 7 + g.random.below(3),
+        2 => g.random.below(33),
+        _ => 1 + g.random.below(4),
+    };
+    let zones: Vec<[f32; 4]> = (0..n)
+        .map(|_| {
+            [
+                mixed(g, wildness, -30.0, 30.0),
+                mixed(g, wildness, -30.0, 30.0),
+                mixed(g, wildness, -30.0, 30.0),
+                mixed(g, wildness, 0.0, 6.0),
+            ]
+        })
+        .collect();
+    g.zones(&zones)
+}
