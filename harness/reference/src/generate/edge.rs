@@ -485,6 +485,7 @@ fn zones(g: &mut Generator) -> Step {
         g.zones(&list)?;
         g.fly(&TickLine { p, ..AWAY }, false)?;
         let q = [p[0] + g.random.between(-5.0, 5.0), p[1] + g.random.between(-5.0, 5.0), p[2]];
+        let q = if g.random.one_in(20) { [f32::NAN, q[1], q[2]] } else { q };
         g.fly(&TickLine { p: q, ..AWAY }, false)?;
         if !g.mode().is_airborne() {
             break;

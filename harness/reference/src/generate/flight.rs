@@ -149,7 +149,7 @@ fn flight(g: &mut Generator, craft: &mut Craft, home: [f32; 3], fence: f32) -> S
         } else {
             craft.trouble_left -= 1;
         }
-        if n > 20 && g.random.one_in(40) {
+        if n > 20 && craft.trouble != Trouble::Wind && g.random.one_in(40) {
             let events = [event::MISSION, event::MISSION, event::MISSION, event::LOITER, event::RTL, event::LAND];
             let event = match g.mode() {
                 Mode::Loiter if !g.random.one_in(4) => event::MISSION,
@@ -197,7 +197,7 @@ fn step(g: &mut Generator, craft: &mut Craft) -> Step {
             craft.v[0] += 0.2 * craft.dt;
         }
         Trouble::Tumble => tick.tilt = g.random.between(1.06, 2.0),
-        Trouble::Push => craft.v[0] += 8.0 * craft.dt,
+        Trouble::Push => craft.p[0] += 15.0 * craft.dt,
         Trouble::Silence | Trouble::MotorOut | Trouble::None => {}
     }
     let amps = if flying { g.random.between(12.0, 30.0) } else { 0.5 };

@@ -35,8 +35,13 @@ pub fn stretch(g: &mut Generator) -> Step {
                 let flag = g.random.below(2) as u32;
                 g.numbers(&[3, flag])?;
             }
+            6 if g.random.one_in(8) => run(g, wildness)?,
             _ => {
-                let tick = tick(g, wildness);
+                let mut tick = tick(g, wildness);
+                if g.mode() == Mode::Mission && g.random.one_in(4) {
+                    let leg = g.supervisor().current_waypoint();
+                    tick.p = leg.map(|x| x + g.random.between(-0.8, 0.8));
+                }
                 let failed = g.random.one_in(10);
                 if g.random.one_in(10) {
                     g.tick(&tick)?;
@@ -48,6 +53,24 @@ pub fn stretch(g: &mut Generator) -> Step {
         if g.mode() == Mode::Terminated && g.random.one_in(4) {
             break;
         }
+    }
+    Ok(())
+}
+
+/// The same tick many times over.
+fn run(g: &mut Generator, wildness: u64) -> Step {
+    let mut tick = tick(g, wildness);
+    if g.random.one_in(2) {
+        tick.tilt = g.random.pick(&[0.5, 1.1]);
+        tick.motor = 1.0;
+    }
+    if g.random.one_in(4) {
+        tick.volts = Some(16.8);
+        tick.amps = Some(500.0);
+        tick.dt = 1.0;
+    }
+    for _ in 0..40 + g.random.below(90) {
+        g.fly(&tick, false)?;
     }
     Ok(())
 }
