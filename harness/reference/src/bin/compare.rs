@@ -9,8 +9,6 @@ use std::{env, fs};
 
 /// Lines shown before a difference.
 const SHOWN: usize = 40;
-/// Where the lines since the last opening are kept, all of them.
-const KEPT: &str = "difference.sheet";
 
 fn main() -> ExitCode {
     match compare() {
@@ -50,22 +48,29 @@ fn compare() -> Result<String, String> {
     let first = run(program, &sheet, option("--pieces").then_some(seed)).map_err(said)?;
     let second = run(reference, &sheet, None).map_err(said)?;
     if let Some(d) = difference(&first, &second) {
-        let text = |line: Option<&[u8]>| line.map_or("(no line)".to_string(), shown);
+        let plain = d.first.map(shown) == d.second.map(shown);
+        let text = |line: Option<&[u8]>| match line {
+            None => "(no line)".to_string(),
+            Some(line) if plain => format!("{:?}", String::from_utf8_lossy(line)),
+            Some(line) => shown(line),
+        };
         let (from, lines) = since_opening(&sheet, d.line);
         let mut out = format!("{title}: line {} differs\n", d.line + 1);
         out += &format!("  {program}: {}\n  {reference}: {}\n", text(d.first), text(d.second));
+        let kept = env::current_exe().map_err(said)?.with_file_name("difference.sheet");
         let hidden = lines.len().saturating_sub(SHOWN);
         out += &format!("lines {} to {} since the last opening", from + 1, from + lines.len());
         if hidden > 0 {
-            out += &format!(" (the first and the last {SHOWN}; all of them are in {KEPT})");
+            out += &format!(" (the first and the last {SHOWN})");
             out += &format!("\n  {}: {}", from + 1, shown(lines[0]));
         }
         for (k, line) in lines.iter().enumerate().skip(hidden) {
             out += &format!("\n  {}: {}", from + k + 1, shown(line));
         }
-        let mut kept = lines.join(&b'\n');
-        kept.push(b'\n');
-        fs::write(KEPT, kept).map_err(|e| format!("{KEPT}: {e}"))?;
+        let mut whole = lines.join(&b'\n');
+        whole.push(b'\n');
+        fs::write(&kept, whole).map_err(said)?;
+        out += &format!("\nall of them: {}", kept.display());
         return Err(out);
     }
     let (refusals, modes) = counts(&second);

@@ -61,15 +61,19 @@ pub fn stretch(g: &mut Generator) -> Step {
 fn run(g: &mut Generator, wildness: u64) -> Step {
     let mut tick = tick(g, wildness);
     if g.random.one_in(2) {
-        tick.tilt = g.random.pick(&[0.5, 1.1]);
+        tick.tilt = g.random.pick(&[0.5, 0.5, 1.1]);
         tick.motor = 1.0;
+        (tick.volts, tick.dt) = (None, 0.0);
+        if let Some(s) = g.shuttle.supervisor() {
+            tick.p = [s.home[0] + 2.0, s.home[1], tick.p[2]];
+        }
     }
     if g.random.one_in(4) {
         tick.volts = Some(16.8);
         tick.amps = Some(500.0);
         tick.dt = 1.0;
     }
-    for _ in 0..40 + g.random.below(90) {
+    for _ in 0..40 + g.random.below(100) {
         g.fly(&tick, false)?;
     }
     Ok(())
@@ -93,9 +97,10 @@ fn urge(g: &mut Generator) -> Result<(), End> {
 }
 
 fn opening(g: &mut Generator, wildness: u64) -> Step {
-    let mask = |g: &mut Generator| match g.random.below(4) {
+    let mask = |g: &mut Generator| match g.random.below(8) {
         0 => g.random.below(1 << 21) as u32,
         1 => 1 << g.random.below(21),
+        2 => 0x1F_FFFF,
         _ => 0,
     };
     let line = OpeningLine {
@@ -112,10 +117,11 @@ fn opening(g: &mut Generator, wildness: u64) -> Step {
 
 fn tick(g: &mut Generator, wildness: u64) -> TickLine {
     let flag = |g: &mut Generator| u32::from(g.random.one_in(8));
+    let low = g.random.pick(&[12.0, 15.0, 15.0]);
     let (volts, amps) = match g.random.below(3) {
         0 => (None, None),
-        1 => (Some(mixed(g, wildness, 12.0, 17.0)), None),
-        _ => (Some(mixed(g, wildness, 12.0, 17.0)), Some(mixed(g, wildness, 0.0, 200.0))),
+        1 => (Some(mixed(g, wildness, low, 17.0)), None),
+        _ => (Some(mixed(g, wildness, low, 17.0)), Some(mixed(g, wildness, 0.0, 200.0))),
     };
     TickLine {
         dt: mixed(g, wildness, 0.0, 1.5),
