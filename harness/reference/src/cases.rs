@@ -59,7 +59,11 @@ pub fn cases_of(text: &str) -> Result<Vec<Case>, String> {
         if let Some(name) = line.strip_prefix("case ") {
             shuttle = Shuttle::new();
             let (sheet, answers) = (Vec::new(), Vec::new());
-            cases.push(Case { name: name.to_string(), sheet, answers });
+            cases.push(Case {
+                name: name.to_string(),
+                sheet,
+                answers,
+            });
             continue;
         }
         let case = cases.last_mut().ok_or_else(|| in_line("no case yet".to_string()))?;
@@ -214,9 +218,9 @@ fn mask(value: &str) -> Result<u32, String> {
     match value {
         "none" => Ok(0),
         "all" => Ok((1 << 21) - 1),
-        _ => value.split('+').try_fold(0, |m, n| {
-            n.parse::<u32>().map(|n| m | 1 << n).map_err(|_| format!("no check: {n}"))
-        }),
+        _ => value
+            .split('+')
+            .try_fold(0, |m, n| n.parse::<u32>().map(|n| m | 1 << n).map_err(|_| format!("no check: {n}"))),
     }
 }
 

@@ -117,7 +117,11 @@ pub fn read_call(line: &[u8]) -> Result<Call, u32> {
             Ok(Call::Tick(Tick {
                 dt: f(1),
                 core: CoreInputs {
-                    nav: NavState { p: f3(2), v: f3(5), tilt: f(8) },
+                    nav: NavState {
+                        p: f3(2),
+                        v: f3(5),
+                        tilt: f(8),
+                    },
                     uncertainty: f(9),
                     motor: f(10),
                     nav_compromised: set(11),
@@ -267,7 +271,11 @@ impl Shuttle {
                 }
                 Ok(none)
             }
-            Call::Command { event, level, throttle_low } => {
+            Call::Command {
+                event,
+                level,
+                throttle_low,
+            } => {
                 supervisor.command(event, level, throttle_low);
                 Ok(none)
             }

@@ -75,7 +75,10 @@ fn compare() -> Result<String, String> {
     }
     let (refusals, modes) = counts(&second);
     let lines = second.iter().filter(|&&b| b == b'\n').count();
-    let report = format!("{title}: {lines} lines alike; refusals 0..8: {:?}; modes 0..7: {modes:?}", &refusals[..9]);
+    let report = format!(
+        "{title}: {lines} lines alike; refusals 0..8: {:?}; modes 0..7: {modes:?}",
+        &refusals[..9]
+    );
     if option("--all") && refusals[1..9].iter().chain(&modes).any(|&n| n == 0) {
         return Err(format!("{report}\na refusal or a mode was not answered"));
     }

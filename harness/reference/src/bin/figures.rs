@@ -8,19 +8,35 @@ use std::process::ExitCode;
 
 const MODES: [&str; 8] = ["Disarmed", "Armed", "Takeoff", "Loiter", "Mission", "Land", "Rtl", "Terminated"];
 const EVENTS: [&str; 12] = [
-    "Arm", "RequestTakeoff", "RequestMission", "RequestLoiter", "RequestRtl", "RequestLand", "RequestDisarm", "ReachedAltitude", "ReachedHome",
-    "Touchdown", "Failsafe", "Terminate",
+    "Arm",
+    "RequestTakeoff",
+    "RequestMission",
+    "RequestLoiter",
+    "RequestRtl",
+    "RequestLand",
+    "RequestDisarm",
+    "ReachedAltitude",
+    "ReachedHome",
+    "Touchdown",
+    "Failsafe",
+    "Terminate",
 ];
 
 /// Branches that no sheet reaches, and why.
 const UNREACHABLE: [(&str, &str); 11] = [
-    ("fsm: RequestTakeoff, position: false", "only the report is without a position, and it gives Failsafe"),
+    (
+        "fsm: RequestTakeoff, position: false",
+        "only the report is without a position, and it gives Failsafe",
+    ),
     ("battery: no cells: true", "the cell count is 4"),
     ("rank: Terminated", "ranks are asked only while airborne"),
     ("checks: battery critical and not low: true", "critical implies low"),
     ("checks: neither low nor critical: false", "critical implies low"),
     ("breach: critical and not low: true", "critical implies low"),
-    ("leg: number beyond the list: true", "an accepted list sets the leg to 0, and it rises only below the count"),
+    (
+        "leg: number beyond the list: true",
+        "an accepted list sets the leg to 0, and it rises only below the count",
+    ),
     ("avoid: urgency above 0: false", "a zone acts only where d < safe + 4"),
     ("mode: Mission, follow: true", "document 01 leaves Follow out"),
     ("report: airborne: false", "a report is due only after a flying tick"),
@@ -76,7 +92,10 @@ fn main() -> ExitCode {
         faults += usize::from((count == 0) != why.is_some());
     }
     let all = cover::names().len();
-    println!("{reached} of {all} branches reached, {} cannot be, {faults} faults; {pairs} of 96 pairs of mode and event", UNREACHABLE.len());
+    println!(
+        "{reached} of {all} branches reached, {} cannot be, {faults} faults; {pairs} of 96 pairs of mode and event",
+        UNREACHABLE.len()
+    );
     let answered = refusals[1..].iter().chain(&modes).all(|&n| n > 0);
     if faults == 0 && pairs == 96 && answered {
         ExitCode::SUCCESS

@@ -62,7 +62,11 @@ fn length(x: f32, y: f32) -> f32 {
 fn plain(g: &mut Generator) -> OpeningLine {
     let mut o = PLAIN;
     if g.random.one_in(2) {
-        o.home = [g.random.between(-9.0, 9.0), g.random.between(-9.0, 9.0), g.random.between(-3.0, 3.0)];
+        o.home = [
+            g.random.between(-9.0, 9.0),
+            g.random.between(-9.0, 9.0),
+            g.random.between(-3.0, 3.0),
+        ];
     }
     o.fence = g.random.pick(&[100.0, 50.0, 33.3]);
     o.cruise = g.random.pick(&[10.0, 7.3, 10.25, 20.0]);
@@ -95,7 +99,9 @@ fn place_at(g: &mut Generator, from: [f32; 2], distance: f32) -> [f32; 2] {
     let share = g.random.pick(&[0.0, 0.6, 0.1, 0.99]);
     let y = from[1] + distance * share;
     let dy = y - from[1];
-    let x = float::boundary(&mut g.random, from[0], from[0] + 2.0 * distance, |x| length(x - from[0], dy) < distance);
+    let x = float::boundary(&mut g.random, from[0], from[0] + 2.0 * distance, |x| {
+        length(x - from[0], dy) < distance
+    });
     if g.random.one_in(2) {
         [x, y]
     } else {
@@ -152,7 +158,15 @@ fn home_distances(g: &mut Generator) -> Step {
         let speed = g.random.pick(&[0.0, 0.4, 0.4, 1.0]);
         let v = speed_of(g, speed);
         let failed = u32::from(g.random.one_in(8));
-        g.fly(&TickLine { p: [x, y, -5.0], v, failed, ..AWAY }, false)?;
+        g.fly(
+            &TickLine {
+                p: [x, y, -5.0],
+                v,
+                failed,
+                ..AWAY
+            },
+            false,
+        )?;
     }
     Ok(())
 }
@@ -163,7 +177,13 @@ fn touchdown(g: &mut Generator) -> Step {
     for _ in 0..4 {
         let z = float::boundary(&mut g.random, 0.0, 1.0, |h| h < 0.15);
         let x = g.random.pick(&[0.0, 0.2, 5.0]);
-        g.fly(&TickLine { p: [o.home[0] + x, o.home[1], -z], ..AWAY }, false)?;
+        g.fly(
+            &TickLine {
+                p: [o.home[0] + x, o.home[1], -z],
+                ..AWAY
+            },
+            false,
+        )?;
     }
     Ok(())
 }
@@ -172,7 +192,13 @@ fn legs(g: &mut Generator) -> Step {
     let o = plain(g);
     let count = g.random.pick(&[0, 1, 2, 3, 15, 16, 17]);
     let points: Vec<[f32; 3]> = (0..count)
-        .map(|k| [o.home[0] + (k % 7) as f32, o.home[1] + (k % 5) as f32, o.home[2] - 5.0 - (k % 3) as f32])
+        .map(|k| {
+            [
+                o.home[0] + (k % 7) as f32,
+                o.home[1] + (k % 5) as f32,
+                o.home[2] - 5.0 - (k % 3) as f32,
+            ]
+        })
         .collect();
     enter(g, o, Mode::Mission)?;
     g.points(&points)?;
@@ -187,7 +213,13 @@ fn legs(g: &mut Generator) -> Step {
             (dx * dx + 0.0 + dz * dz).sqrt() < 1.2
         };
         let x1 = float::boundary(&mut g.random, x, x + 5.0, near);
-        g.fly(&TickLine { p: [x1, y, z + dz], ..AWAY }, false)?;
+        g.fly(
+            &TickLine {
+                p: [x1, y, z + dz],
+                ..AWAY
+            },
+            false,
+        )?;
         if g.random.one_in(20) {
             g.points(&points)?;
         }
@@ -203,7 +235,13 @@ fn braking(g: &mut Generator) -> Step {
     let from = g.random.pick(&[Mode::Mission, Mode::Takeoff, Mode::Loiter]);
     enter(g, o, from)?;
     if from == Mode::Mission {
-        g.fly(&TickLine { p: [o.home[0] + 20.0, o.home[1], -10.0], ..AWAY }, false)?;
+        g.fly(
+            &TickLine {
+                p: [o.home[0] + 20.0, o.home[1], -10.0],
+                ..AWAY
+            },
+            false,
+        )?;
         g.command(event::LOITER)?;
     }
     let speed = g.random.pick(&[0.3, 0.3, 1.0]);
@@ -238,13 +276,17 @@ fn fence(g: &mut Generator) -> Step {
     o.required |= 1 << 20;
     o.passed = o.required;
     if g.random.one_in(6) {
-        o.fence = g.random.pick(&[0.0, -0.0, -1.0, f32::INFINITY, f32::NAN, 1.0e30, f32::MIN_POSITIVE]);
+        o.fence = g
+            .random
+            .pick(&[0.0, -0.0, -1.0, f32::INFINITY, f32::NAN, 1.0e30, f32::MIN_POSITIVE]);
     }
     if g.random.one_in(10) {
         let k = g.random.below(3) as usize;
         o.home[k] = g.random.pick(&[f32::NAN, f32::INFINITY, 1.0e20]);
     }
-    let mode = g.random.pick(&[Mode::Disarmed, Mode::Takeoff, Mode::Loiter, Mode::Mission, Mode::Rtl, Mode::Land]);
+    let mode = g
+        .random
+        .pick(&[Mode::Disarmed, Mode::Takeoff, Mode::Loiter, Mode::Mission, Mode::Rtl, Mode::Land]);
     enter(g, o, mode)?;
     for _ in 0..5 {
         let [x, y] = place_at(g, [o.home[0], o.home[1]], o.fence);
@@ -275,7 +317,14 @@ fn tilted(g: &mut Generator) -> Step {
     }
     for _ in 0..2 {
         let tilt = g.random.pick(&[1.05, 1.05f32.next_up(), 1.05f32.next_down(), f32::NAN]);
-        g.fly(&TickLine { p: [o.home[0] + 5.0, o.home[1], -5.0], tilt, ..AWAY }, false)?;
+        g.fly(
+            &TickLine {
+                p: [o.home[0] + 5.0, o.home[1], -5.0],
+                tilt,
+                ..AWAY
+            },
+            false,
+        )?;
     }
     Ok(())
 }
@@ -330,13 +379,24 @@ fn volts_only(g: &mut Generator) -> Step {
         let limit = g.random.pick(&[low, critical]);
         let volts = float::boundary(&mut g.random, -1.0, 70.0, |v| v / 4.0 < limit);
         let estimator = g.supervisor().batt_est;
-        let below = if limit == low { estimator.low.below_s } else { estimator.critical.below_s };
+        let below = if limit == low {
+            estimator.low.below_s
+        } else {
+            estimator.critical.below_s
+        };
         let dt = match g.random.below(4) {
             0 => dt_to(g, below, 2.0),
             1 => g.random.pick(&[1.0f32, 1.0f32.next_up(), 1.0f32.next_down(), 0.5]),
             _ => g.random.between(0.3, 1.0),
         };
-        g.fly(&TickLine { dt, volts: Some(volts), ..AWAY }, false)?;
+        g.fly(
+            &TickLine {
+                dt,
+                volts: Some(volts),
+                ..AWAY
+            },
+            false,
+        )?;
     }
     Ok(())
 }
@@ -356,7 +416,15 @@ fn charge(g: &mut Generator) -> Step {
     let spend = g.random.one_in(3);
     if spend {
         for _ in 0..20 + g.random.below(18) {
-            g.fly(&TickLine { dt: 1.0, volts: Some(16.8), amps: Some(500.0), ..AWAY }, false)?;
+            g.fly(
+                &TickLine {
+                    dt: 1.0,
+                    volts: Some(16.8),
+                    amps: Some(500.0),
+                    ..AWAY
+                },
+                false,
+            )?;
         }
     }
     for _ in 0..4 + g.random.below(10) {
@@ -377,7 +445,15 @@ fn charge(g: &mut Generator) -> Step {
         } else {
             volts = volts_for(g, estimator, dt, amps, limit);
         }
-        g.fly(&TickLine { dt, volts: Some(volts), amps: Some(amps), ..AWAY }, false)?;
+        g.fly(
+            &TickLine {
+                dt,
+                volts: Some(volts),
+                amps: Some(amps),
+                ..AWAY
+            },
+            false,
+        )?;
         if g.random.one_in(8) {
             g.fly(&AWAY, false)?;
         }
@@ -396,18 +472,38 @@ fn resistance(g: &mut Generator) -> Step {
         amps = match g.random.below(4) {
             0 => float::boundary(&mut g.random, before, before + 20.0, |a| a - before > 5.0),
             1 => float::boundary(&mut g.random, before - 20.0, before, |a| a - before < -5.0),
-            2 => g.random.pick(&[0.0, 500.0, 500.0f32.next_up(), 0.0f32.next_down(), 60.0, f32::NAN, f32::INFINITY]),
+            2 => g
+                .random
+                .pick(&[0.0, 500.0, 500.0f32.next_up(), 0.0f32.next_down(), 60.0, f32::NAN, f32::INFINITY]),
             _ => g.random.between(0.0, 120.0),
         };
         let volts = match g.random.below(3) {
-            0 => g.random.pick(&[0.0, 60.0, 60.0f32.next_up(), 20.0, 17.0, -0.0, -1.0, f32::NAN, f32::INFINITY]),
+            0 => g
+                .random
+                .pick(&[0.0, 60.0, 60.0f32.next_up(), 20.0, 17.0, -0.0, -1.0, f32::NAN, f32::INFINITY]),
             _ => g.random.between(13.0, 17.0),
         };
         let dt = g.random.between(0.0, 0.3);
-        g.fly(&TickLine { dt, volts: Some(volts), amps: Some(amps), ..AWAY }, false)?;
+        g.fly(
+            &TickLine {
+                dt,
+                volts: Some(volts),
+                amps: Some(amps),
+                ..AWAY
+            },
+            false,
+        )?;
         let estimator = g.supervisor().batt_est;
         let volts = volts_for(g, estimator, 0.1, amps, 0.3);
-        g.fly(&TickLine { dt: 0.1, volts: Some(volts), amps: Some(amps), ..AWAY }, false)?;
+        g.fly(
+            &TickLine {
+                dt: 0.1,
+                volts: Some(volts),
+                amps: Some(amps),
+                ..AWAY
+            },
+            false,
+        )?;
         if g.random.one_in(6) {
             g.fly(&TickLine { volts: Some(16.0), ..AWAY }, false)?;
         }
@@ -446,7 +542,11 @@ fn zones(g: &mut Generator) -> Step {
     let o = plain(g);
     let mode = g.random.pick(&[Mode::Takeoff, Mode::Loiter, Mode::Mission, Mode::Rtl, Mode::Land]);
     enter(g, o, mode)?;
-    let p = [o.home[0] + g.random.between(-15.0, 15.0), o.home[1] + g.random.between(-15.0, 15.0), -o.cruise - 1.0];
+    let p = [
+        o.home[0] + g.random.between(-15.0, 15.0),
+        o.home[1] + g.random.between(-15.0, 15.0),
+        -o.cruise - 1.0,
+    ];
     let p = if g.random.one_in(6) { [o.home[0], o.home[1], p[2]] } else { p };
     g.fly(&TickLine { p, ..AWAY }, false)?;
     for _ in 0..8 {
@@ -541,13 +641,24 @@ fn odd_times(g: &mut Generator) -> Step {
     for _ in 0..6 {
         let dt = match g.random.below(3) {
             0 => float::any(&mut g.random),
-            1 => g.random.pick(&[f32::NAN, f32::INFINITY, f32::NEG_INFINITY, -1.0, 1.0e30, 0.0, -0.0]),
+            1 => g
+                .random
+                .pick(&[f32::NAN, f32::INFINITY, f32::NEG_INFINITY, -1.0, 1.0e30, 0.0, -0.0]),
             _ => g.random.between(0.0, 2.0),
         };
         let volts = g.random.one_in(2).then_some(13.0);
         let amps = g.random.one_in(2).then_some(40.0);
         let v = g.random.pick(&[[0.0; 3], [1.0, 0.0, 0.0]]);
-        g.fly(&TickLine { dt, v, volts, amps, ..AWAY }, false)?;
+        g.fly(
+            &TickLine {
+                dt,
+                v,
+                volts,
+                amps,
+                ..AWAY
+            },
+            false,
+        )?;
     }
     Ok(())
 }
@@ -583,7 +694,9 @@ fn every_event(g: &mut Generator) -> Step {
 /// A pack that turns critical in Rtl or on the way there, high or low, near home or not.
 fn critical_near_ground(g: &mut Generator) -> Step {
     let o = plain(g);
-    let mode = g.random.pick(&[Mode::Takeoff, Mode::Loiter, Mode::Mission, Mode::Rtl, Mode::Land, Mode::Armed]);
+    let mode = g
+        .random
+        .pick(&[Mode::Takeoff, Mode::Loiter, Mode::Mission, Mode::Rtl, Mode::Land, Mode::Armed]);
     enter(g, o, mode)?;
     let x = g.random.pick(&[0.0, 0.39, 5.0, 200.0]);
     for _ in 0..5 {
@@ -592,7 +705,16 @@ fn critical_near_ground(g: &mut Generator) -> Step {
         let volts = g.random.pick(&[13.3, 13.3, 13.9, 16.0]);
         let amps = g.random.one_in(3).then_some(2.0);
         let failed = g.random.one_in(8);
-        g.fly(&TickLine { dt: 1.0, p, volts: Some(volts), amps, ..AWAY }, failed)?;
+        g.fly(
+            &TickLine {
+                dt: 1.0,
+                p,
+                volts: Some(volts),
+                amps,
+                ..AWAY
+            },
+            failed,
+        )?;
     }
     Ok(())
 }

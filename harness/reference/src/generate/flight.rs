@@ -42,7 +42,11 @@ pub fn day(g: &mut Generator) -> Step {
     let home = if g.random.one_in(2) {
         [0.0; 3]
     } else {
-        [g.random.between(-30.0, 30.0), g.random.between(-30.0, 30.0), g.random.between(-2.0, 1.0)]
+        [
+            g.random.between(-30.0, 30.0),
+            g.random.between(-30.0, 30.0),
+            g.random.between(-2.0, 1.0),
+        ]
     };
     let fence = g.random.pick(&[30.0, 60.0, 100.0, 250.0]);
     let required = match g.random.below(3) {
@@ -150,7 +154,14 @@ fn flight(g: &mut Generator, craft: &mut Craft, home: [f32; 3], fence: f32) -> S
             craft.trouble_left -= 1;
         }
         if n > 20 && craft.trouble != Trouble::Wind && g.random.one_in(40) {
-            let events = [event::MISSION, event::MISSION, event::MISSION, event::LOITER, event::RTL, event::LAND];
+            let events = [
+                event::MISSION,
+                event::MISSION,
+                event::MISSION,
+                event::LOITER,
+                event::RTL,
+                event::LAND,
+            ];
             let event = match g.mode() {
                 Mode::Loiter if !g.random.one_in(4) => event::MISSION,
                 _ => g.random.pick(&events),
