@@ -13,10 +13,7 @@ const FILES: [(&str, &str); 5] = [
 ];
 
 fn main() {
-    let harness = PathBuf::from(env::var("CARGO_MANIFEST_DIR").unwrap())
-        .join("..")
-        .canonicalize()
-        .unwrap();
+    let harness = PathBuf::from(env::var("CARGO_MANIFEST_DIR").unwrap()).join("..").canonicalize().unwrap();
     let out = PathBuf::from(env::var("OUT_DIR").unwrap());
     println!("cargo::rerun-if-changed={}", harness.join("relay").display());
     println!("cargo::rerun-if-changed={}", harness.join("patches").display());

@@ -2,18 +2,9 @@
 
 use crate::sheet::{answer_sheet, write_fields, Shuttle, ANSWER_FIELDS};
 
-const WORKED_INPUT: [&str; 4] = [
-    "1 0 0 0 1120403456 1092616192 1096810496 0 0 0",
-    "4 0 1 1",
-    "4 1 1 1",
-    "2 0 0 0 0 0 0 0 0 0 0 0 0 0 0 0 0 0",
-];
-const WORKED_OUTPUT: [&str; 4] = [
-    "0 0 0 0 0 0 0 0 0 21",
-    "0 1 0 0 0 0 0 0 0 21",
-    "0 2 0 0 0 0 0 0 0 21",
-    "0 2 0 0 1 0 0 3240099840 0 21",
-];
+const WORKED_INPUT: [&str; 4] =
+    ["1 0 0 0 1120403456 1092616192 1096810496 0 0 0", "4 0 1 1", "4 1 1 1", "2 0 0 0 0 0 0 0 0 0 0 0 0 0 0 0 0 0"];
+const WORKED_OUTPUT: [&str; 4] = ["0 0 0 0 0 0 0 0 0 21", "0 1 0 0 0 0 0 0 0 21", "0 2 0 0 0 0 0 0 0 21", "0 2 0 0 1 0 0 3240099840 0 21"];
 
 /// Run document 01's worked example.
 pub fn worked_example() -> Result<(), String> {
@@ -59,11 +50,7 @@ pub fn cases_of(text: &str) -> Result<Vec<Case>, String> {
         if let Some(name) = line.strip_prefix("case ") {
             shuttle = Shuttle::new();
             let (sheet, answers) = (Vec::new(), Vec::new());
-            cases.push(Case {
-                name: name.to_string(),
-                sheet,
-                answers,
-            });
+            cases.push(Case { name: name.to_string(), sheet, answers });
             continue;
         }
         let case = cases.last_mut().ok_or_else(|| in_line("no case yet".to_string()))?;
@@ -218,9 +205,7 @@ fn mask(value: &str) -> Result<u32, String> {
     match value {
         "none" => Ok(0),
         "all" => Ok((1 << 21) - 1),
-        _ => value
-            .split('+')
-            .try_fold(0, |m, n| n.parse::<u32>().map(|n| m | 1 << n).map_err(|_| format!("no check: {n}"))),
+        _ => value.split('+').try_fold(0, |m, n| n.parse::<u32>().map(|n| m | 1 << n).map_err(|_| format!("no check: {n}"))),
     }
 }
 

@@ -81,10 +81,7 @@ pub struct FlightCore {
 
 impl FlightCore {
     pub fn new(hover_thrust: f32, _loop_hz: f32) -> Self {
-        FlightCore {
-            casc: CascadePartition { hover_thrust },
-            ..FlightCore::default()
-        }
+        FlightCore { casc: CascadePartition { hover_thrust }, ..FlightCore::default() }
     }
 
     /// Make ready for a tick with these inputs.
@@ -117,11 +114,7 @@ impl FlightCore {
     }
 
     pub fn failed_motor(&self) -> Option<usize> {
-        let failed = if self.stepped {
-            self.inputs.failed_after_step
-        } else {
-            self.inputs.failed
-        };
+        let failed = if self.stepped { self.inputs.failed_after_step } else { self.inputs.failed };
         failed.then_some(0)
     }
 

@@ -117,11 +117,7 @@ pub fn read_call(line: &[u8]) -> Result<Call, u32> {
             Ok(Call::Tick(Tick {
                 dt: f(1),
                 core: CoreInputs {
-                    nav: NavState {
-                        p: f3(2),
-                        v: f3(5),
-                        tilt: f(8),
-                    },
+                    nav: NavState { p: f3(2), v: f3(5), tilt: f(8) },
                     uncertainty: f(9),
                     motor: f(10),
                     nav_compromised: set(11),
@@ -142,11 +138,7 @@ pub fn read_call(line: &[u8]) -> Result<Call, u32> {
         4 => {
             count(4)?;
             range(n[1] <= 11 && flag(2) && flag(3))?;
-            Ok(Call::Command {
-                event: EVENTS[n[1] as usize],
-                level: set(2),
-                throttle_low: set(3),
-            })
+            Ok(Call::Command { event: EVENTS[n[1] as usize], level: set(2), throttle_low: set(3) })
         }
         5 => {
             if n.len() < 2 {
@@ -160,10 +152,7 @@ pub fn read_call(line: &[u8]) -> Result<Call, u32> {
                 return Err(4);
             }
             count(2 + 4 * u64::from(n[1]))?;
-            let zone = |k: usize| KeepoutZone {
-                center: f3(2 + 4 * k),
-                radius: f(5 + 4 * k),
-            };
+            let zone = |k: usize| KeepoutZone { center: f3(2 + 4 * k), radius: f(5 + 4 * k) };
             Ok(Call::Zones((0..n[1] as usize).map(zone).collect()))
         }
         _ => Err(3),
@@ -271,11 +260,7 @@ impl Shuttle {
                 }
                 Ok(none)
             }
-            Call::Command {
-                event,
-                level,
-                throttle_low,
-            } => {
+            Call::Command { event, level, throttle_low } => {
                 supervisor.command(event, level, throttle_low);
                 Ok(none)
             }
@@ -297,25 +282,10 @@ impl Shuttle {
     fn columns(&self, refusal: u32, outputs: CoreOutputs) -> [u32; ANSWER_FIELDS] {
         let (mode, outstanding, blocker) = match &self.supervisor {
             None => (0, 0, NO_BLOCKER),
-            Some(s) => (
-                s.mode() as u32,
-                s.prearm_failing_mask().count_ones(),
-                s.arm_blocked_check().map_or(NO_BLOCKER, |id| id as u32),
-            ),
+            Some(s) => (s.mode() as u32, s.prearm_failing_mask().count_ones(), s.arm_blocked_check().map_or(NO_BLOCKER, |id| id as u32)),
         };
         let [x, y, z] = outputs.setpoint.map(answer_bits);
-        [
-            refusal,
-            mode,
-            u32::from(outputs.landing),
-            u32::from(outputs.motors_off),
-            u32::from(outputs.rearm),
-            x,
-            y,
-            z,
-            outstanding,
-            blocker,
-        ]
+        [refusal, mode, u32::from(outputs.landing), u32::from(outputs.motors_off), u32::from(outputs.rearm), x, y, z, outstanding, blocker]
     }
 }
 

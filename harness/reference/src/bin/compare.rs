@@ -75,10 +75,7 @@ fn compare() -> Result<String, String> {
     }
     let (refusals, modes) = counts(&second);
     let lines = second.iter().filter(|&&b| b == b'\n').count();
-    let report = format!(
-        "{title}: {lines} lines alike; refusals 0..8: {:?}; modes 0..7: {modes:?}",
-        &refusals[..9]
-    );
+    let report = format!("{title}: {lines} lines alike; refusals 0..8: {:?}; modes 0..7: {modes:?}", &refusals[..9]);
     if option("--all") && refusals[1..9].iter().chain(&modes).any(|&n| n == 0) {
         return Err(format!("{report}\na refusal or a mode was not answered"));
     }
@@ -89,11 +86,7 @@ fn compare() -> Result<String, String> {
 fn shown(line: &[u8]) -> String {
     let whole = String::from_utf8_lossy(line).into_owned();
     let numbers = line.len() % 11 == usize::from(line.ends_with(b"\n")) && line.iter().all(|b| b.is_ascii_digit() || b" \n".contains(b));
-    let text = if numbers {
-        whole.split_whitespace().collect::<Vec<_>>().join(" ")
-    } else {
-        format!("{:?}", whole)
-    };
+    let text = if numbers { whole.split_whitespace().collect::<Vec<_>>().join(" ") } else { format!("{:?}", whole) };
     if text.len() > 300 {
         let end = (0..=300).rev().find(|&i| text.is_char_boundary(i)).unwrap_or(0);
         return format!("{} ... ({} bytes)", &text[..end], line.len());

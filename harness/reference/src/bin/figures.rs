@@ -24,19 +24,13 @@ const EVENTS: [&str; 12] = [
 
 /// Branches that no sheet reaches, and why.
 const UNREACHABLE: [(&str, &str); 11] = [
-    (
-        "fsm: RequestTakeoff, position: false",
-        "only the report is without a position, and it gives Failsafe",
-    ),
+    ("fsm: RequestTakeoff, position: false", "only the report is without a position, and it gives Failsafe"),
     ("battery: no cells: true", "the cell count is 4"),
     ("rank: Terminated", "ranks are asked only while airborne"),
     ("checks: battery critical and not low: true", "critical implies low"),
     ("checks: neither low nor critical: false", "critical implies low"),
     ("breach: critical and not low: true", "critical implies low"),
-    (
-        "leg: number beyond the list: true",
-        "an accepted list sets the leg to 0, and it rises only below the count",
-    ),
+    ("leg: number beyond the list: true", "an accepted list sets the leg to 0, and it rises only below the count"),
     ("avoid: urgency above 0: false", "a zone acts only where d < safe + 4"),
     ("mode: Mission, follow: true", "document 01 leaves Follow out"),
     ("report: airborne: false", "a report is due only after a flying tick"),

@@ -99,26 +99,8 @@ fn bad_byte(r: &mut Random, line: &[u8]) -> Vec<u8> {
     let mut bad = line.to_vec();
     let at = r.below(bad.len() as u64) as usize;
     let any = not_newline(r.next() as u8);
-    bad[at] = r.pick(&[
-        any,
-        b'\t',
-        b'\r',
-        0,
-        0x80,
-        0xA0,
-        0xFF,
-        b'+',
-        b'-',
-        b'0',
-        b' ',
-        b'/',
-        b':',
-        b'.',
-        b'1',
-        b'9',
-        0x30 | 0x80,
-        0x20 | 0x80,
-    ]);
+    bad[at] =
+        r.pick(&[any, b'\t', b'\r', 0, 0x80, 0xA0, 0xFF, b'+', b'-', b'0', b' ', b'/', b':', b'.', b'1', b'9', 0x30 | 0x80, 0x20 | 0x80]);
     bad
 }
 
@@ -161,14 +143,7 @@ fn bad_field(r: &mut Random, line: &[u8]) -> Vec<u8> {
 fn out_of_range(r: &mut Random) -> Vec<u8> {
     if r.one_in(3) {
         let mut n = [1, 0, 0, 0, 1120403456, 1092616192, 1096810496, 0, 0, 0];
-        let (at, value) = r.pick(&[
-            (7, 2097152),
-            (8, 2097152),
-            (9, 2),
-            (7, 4294967295),
-            (8, 2147483648),
-            (9, 4294967295),
-        ]);
+        let (at, value) = r.pick(&[(7, 2097152), (8, 2097152), (9, 2), (7, 4294967295), (8, 2147483648), (9, 4294967295)]);
         n[at] = value;
         return numbers_line(&n);
     }

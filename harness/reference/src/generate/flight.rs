@@ -42,11 +42,7 @@ pub fn day(g: &mut Generator) -> Step {
     let home = if g.random.one_in(2) {
         [0.0; 3]
     } else {
-        [
-            g.random.between(-30.0, 30.0),
-            g.random.between(-30.0, 30.0),
-            g.random.between(-2.0, 1.0),
-        ]
+        [g.random.between(-30.0, 30.0), g.random.between(-30.0, 30.0), g.random.between(-2.0, 1.0)]
     };
     let fence = g.random.pick(&[30.0, 60.0, 100.0, 250.0]);
     let required = match g.random.below(3) {
@@ -104,11 +100,7 @@ fn plan(g: &mut Generator, home: [f32; 3], fence: f32) -> Step {
     let n = g.random.below(most);
     let mut points: Vec<[f32; 3]> = (0..n)
         .map(|_| {
-            [
-                home[0] + g.random.between(-reach, reach),
-                home[1] + g.random.between(-reach, reach),
-                home[2] - g.random.between(2.0, 20.0),
-            ]
+            [home[0] + g.random.between(-reach, reach), home[1] + g.random.between(-reach, reach), home[2] - g.random.between(2.0, 20.0)]
         })
         .collect();
     if n > 0 && g.random.one_in(10) {
@@ -120,12 +112,7 @@ fn plan(g: &mut Generator, home: [f32; 3], fence: f32) -> Step {
         let n = 1 + g.random.below(4);
         let zones: Vec<[f32; 4]> = (0..n)
             .map(|_| {
-                [
-                    home[0] + g.random.between(-reach, reach),
-                    home[1] + g.random.between(-reach, reach),
-                    0.0,
-                    g.random.between(0.5, 5.0),
-                ]
+                [home[0] + g.random.between(-reach, reach), home[1] + g.random.between(-reach, reach), 0.0, g.random.between(0.5, 5.0)]
             })
             .collect();
         g.zones(&zones)?;
@@ -154,14 +141,7 @@ fn flight(g: &mut Generator, craft: &mut Craft, home: [f32; 3], fence: f32) -> S
             craft.trouble_left -= 1;
         }
         if n > 20 && craft.trouble != Trouble::Wind && g.random.one_in(40) {
-            let events = [
-                event::MISSION,
-                event::MISSION,
-                event::MISSION,
-                event::LOITER,
-                event::RTL,
-                event::LAND,
-            ];
+            let events = [event::MISSION, event::MISSION, event::MISSION, event::LOITER, event::RTL, event::LAND];
             let event = match g.mode() {
                 Mode::Loiter if !g.random.one_in(4) => event::MISSION,
                 _ => g.random.pick(&events),

@@ -125,11 +125,7 @@ fn tick(g: &mut Generator, wildness: u64) -> TickLine {
     };
     TickLine {
         dt: mixed(g, wildness, 0.0, 1.5),
-        p: [
-            mixed(g, wildness, -20.0, 20.0),
-            mixed(g, wildness, -20.0, 20.0),
-            mixed(g, wildness, -30.0, 1.0),
-        ],
+        p: [mixed(g, wildness, -20.0, 20.0), mixed(g, wildness, -20.0, 20.0), mixed(g, wildness, -30.0, 1.0)],
         v: [0, 1, 2].map(|_| mixed(g, wildness, -2.0, 2.0)),
         tilt: mixed(g, wildness, 0.0, 1.2),
         uncertainty: mixed(g, wildness, 0.0, 0.04),
@@ -151,9 +147,8 @@ fn points(g: &mut Generator, wildness: u64) -> Step {
         _ => 1 + g.random.below(4),
     };
     let rare = wildness * (n + 1);
-    let points: Vec<[f32; 3]> = (0..n)
-        .map(|_| [mixed(g, rare, -4.0, 4.0), mixed(g, rare, -4.0, 4.0), mixed(g, rare, -30.0, -6.0)])
-        .collect();
+    let points: Vec<[f32; 3]> =
+        (0..n).map(|_| [mixed(g, rare, -4.0, 4.0), mixed(g, rare, -4.0, 4.0), mixed(g, rare, -30.0, -6.0)]).collect();
     g.points(&points)
 }
 
