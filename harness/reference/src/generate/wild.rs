@@ -35,12 +35,16 @@ pub fn stretch(g: &mut Generator) -> Step {
                 let flag = g.random.below(2) as u32;
                 g.numbers(&[3, flag])?;
             }
-            6 if g.random.one_in(8) => run(g, wildness)?,
+            6 if g.random.one_in(if climbing(g.mode()) { 2 } else { 12 }) => run(g, wildness)?,
             _ => {
                 let mut tick = tick(g, wildness);
                 if g.mode() == Mode::Mission && g.random.one_in(4) {
                     let leg = g.supervisor().current_waypoint();
                     tick.p = leg.map(|x| x + g.random.between(-0.8, 0.8));
+                }
+                if let Some(home) = g.shuttle.supervisor().filter(|_| g.random.one_in(6)).map(|s| s.home) {
+                    tick.p = [home[0] + g.random.between(-0.4, 0.4), home[1], tick.p[2]];
+                    tick.v = tick.v.map(|v| v * 0.1);
                 }
                 let failed = g.random.one_in(10);
                 if g.random.one_in(10) {
@@ -57,25 +61,32 @@ pub fn stretch(g: &mut Generator) -> Step {
     Ok(())
 }
 
-/// The same tick many times over.
+/// A mode of rank 1 in the air.
+fn climbing(mode: Mode) -> bool {
+    matches!(mode, Mode::Takeoff | Mode::Loiter | Mode::Mission)
+}
+
+/// The same tick many times over, with fewer damaged lines between.
 fn run(g: &mut Generator, wildness: u64) -> Step {
     let mut tick = tick(g, wildness);
-    if g.random.one_in(2) {
-        tick.tilt = g.random.pick(&[0.5, 0.5, 1.1]);
-        tick.motor = 1.0;
-        (tick.volts, tick.dt) = (None, 0.0);
-        if let Some(s) = g.shuttle.supervisor() {
-            tick.p = [s.home[0] + 2.0, s.home[1], tick.p[2]];
+    if let Some(home) = g.shuttle.supervisor().map(|s| s.home) {
+        tick.p = [home[0] + 2.0, home[1], tick.p[2]];
+    }
+    match g.random.below(4) {
+        0 => (tick.tilt, tick.volts, tick.dt) = (1.1, None, 0.0),
+        1 => (tick.tilt, tick.motor, tick.volts, tick.dt) = (0.5, 1.0, None, 0.0),
+        2 => (tick.volts, tick.amps, tick.dt) = (Some(16.8), Some(500.0), 1.0),
+        _ => {
+            let brake = TickLine { v: [1.0; 3], ..tick };
+            g.fly(&brake, false)?;
+            (tick.v, tick.dt, tick.tilt, tick.volts) = ([0.01; 3], 0.3, 0.0, Some(16.8));
         }
     }
-    if g.random.one_in(4) {
-        tick.volts = Some(16.8);
-        tick.amps = Some(500.0);
-        tick.dt = 1.0;
-    }
+    let damage = std::mem::replace(&mut g.damage_one_in, 200);
     for _ in 0..40 + g.random.below(100) {
         g.fly(&tick, false)?;
     }
+    g.damage_one_in = damage;
     Ok(())
 }
 
