@@ -70,7 +70,7 @@ pub fn difference<'a>(first: &'a [u8], second: &'a [u8]) -> Option<Difference<'a
 }
 
 /// The lines of a sheet from the last opening before a line on, that line included. An opening starts everything anew.
-pub fn since_opening<'a>(sheet: &'a [u8], line: usize) -> (usize, Vec<&'a [u8]>) {
+pub fn since_opening(sheet: &[u8], line: usize) -> (usize, Vec<&[u8]>) {
     let lines: Vec<&[u8]> = sheet.split(|&b| b == b'\n').take(line + 1).collect();
     let opens = |l: &&[u8]| matches!(read_call(l), Ok(Call::Opening(_)));
     let from = lines.iter().rposition(opens).unwrap_or(0);

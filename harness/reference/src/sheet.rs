@@ -81,7 +81,7 @@ pub fn read_field(field: &[u8]) -> Option<u32> {
 
 /// The numbers of a line, or `None` where refusal 2 fits.
 pub fn read_line(line: &[u8]) -> Option<Vec<u32>> {
-    if line.is_empty() || line.len() % WIDTH != 0 || line.len() > MAX_FIELDS * WIDTH {
+    if line.is_empty() || !line.len().is_multiple_of(WIDTH) || line.len() > MAX_FIELDS * WIDTH {
         return None;
     }
     line.chunks_exact(WIDTH).map(read_field).collect()

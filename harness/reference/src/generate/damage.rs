@@ -18,7 +18,7 @@ pub fn damaged(r: &mut Random, numbers: &[u32], line: &[u8]) -> Vec<u8> {
                 n.pop();
             }
         }),
-        7 => numbers_line(&r.pick(&[
+        7 => numbers_line(r.pick(&[
             &[5u32, 1431655766, 0, 0] as &[u32],
             &[5, 2863311531, 0],
             &[6, 1073741824],
@@ -44,7 +44,7 @@ pub fn damaged(r: &mut Random, numbers: &[u32], line: &[u8]) -> Vec<u8> {
             n[at] = r.pick(&[2, 3, 2097151, 2097152, 2147483648, 4294967295]);
         }),
         12 => too_long(r, line),
-        13 => numbers_line(&r.pick(&[
+        13 => numbers_line(r.pick(&[
             &[5u32, 1, 0, 0, 3204448256] as &[u32],
             &[5, 1, 0, 0, 1056964608],
             &[5, 1, 2143289344, 0, 3240099840],
@@ -54,7 +54,7 @@ pub fn damaged(r: &mut Random, numbers: &[u32], line: &[u8]) -> Vec<u8> {
         14 => Vec::new(),
         _ => {
             let length = r.below(40) as usize;
-            (0..length).map(|_| not_newline(r.next() as u8)).collect()
+            (0..length).map(|_| not_newline(r.bits() as u8)).collect()
         }
     }
 }
@@ -98,7 +98,7 @@ fn longer(r: &mut Random, line: &[u8]) -> Vec<u8> {
 fn bad_byte(r: &mut Random, line: &[u8]) -> Vec<u8> {
     let mut bad = line.to_vec();
     let at = r.below(bad.len() as u64) as usize;
-    let any = not_newline(r.next() as u8);
+    let any = not_newline(r.bits() as u8);
     bad[at] =
         r.pick(&[any, b'\t', b'\r', 0, 0x80, 0xA0, 0xFF, b'+', b'-', b'0', b' ', b'/', b':', b'.', b'1', b'9', 0x30 | 0x80, 0x20 | 0x80]);
     bad

@@ -48,7 +48,7 @@ pub fn day(g: &mut Generator) -> Step {
     let required = match g.random.below(3) {
         0 => 0,
         1 => 0b1_1110_1010_0010_1111_1111 & !(1 << 4),
-        _ => g.random.next() as u32 & 0x1F_FFFF,
+        _ => g.random.bits() as u32 & 0x1F_FFFF,
     };
     let passed = if g.random.one_in(5) { 0 } else { 0x1F_FFFF };
     let opening = OpeningLine {

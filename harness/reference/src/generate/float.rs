@@ -11,7 +11,7 @@ pub const LIMITS: [f32; 34] = [
 /// Any bit pattern, with the unusual ones often.
 pub fn any(r: &mut Random) -> f32 {
     match r.below(10) {
-        0 => f32::from_bits(r.next() as u32),
+        0 => f32::from_bits(r.bits() as u32),
         1 => {
             let sign = (r.below(2) as u32) << 31;
             let payload = 1 + r.below(0x7F_FFFF) as u32;
