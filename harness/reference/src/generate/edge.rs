@@ -443,15 +443,18 @@ fn spent(g: &mut Generator) -> Step {
     o.required = 1 << 13;
     o.passed = o.required;
     enter(g, o, mode)?;
-    let full = TickLine { dt: 1.0, volts: Some(16.8), amps: Some(g.random.between(380.0, 480.0)), ..AWAY };
-    while g.supervisor().batt_est.consumed_mah < 5000.0 * (1.0 - limit) - 138.0 {
+    let dt = g.random.between(0.9, 0.99);
+    let full = TickLine { dt, volts: Some(16.8), amps: Some(g.random.between(380.0, 440.0)), ..AWAY };
+    while g.supervisor().batt_est.consumed_mah < 5000.0 * (1.0 - limit) - 124.0 {
         g.fly(&full, false)?;
     }
-    g.fly(&TickLine { volts: Some(13.0), amps: Some(0.0), ..full }, false)?;
+    for _ in 0..2 {
+        g.fly(&TickLine { volts: Some(13.0), amps: Some(0.0), ..full }, false)?;
+    }
     let estimator = g.supervisor().batt_est;
     let amps = float::boundary(&mut g.random, 0.0, 500.0, |amps| {
         let mut trial = estimator;
-        trial.update(1.0, 16.8, Some(amps)).soc < limit
+        trial.update(dt, 16.8, Some(amps)).soc < limit
     });
     g.fly(&TickLine { amps: Some(amps), ..full }, false)?;
     g.fly(&full, false)?;
