@@ -1,0 +1,257 @@
+//! Deterministic sheets for the comparison. The generator answers its own lines with the reference, so that it knows the mode, what is
+//! due and the supervisor's counts, and can go on from there.
+
+mod damage;
+mod edge;
+mod flight;
+mod float;
+mod wild;
+
+use crate::falcon_core::FlightSupervisor;
+use crate::random::Random;
+use crate::relay_fsm::Mode;
+use crate::sheet::{write_fields, Shuttle, ANSWER_FIELDS};
+use std::io::{self, Write};
+
+/// The sort of sheet.
+#[derive(Clone, Copy, Debug, PartialEq, Eq)]
+pub enum Profile {
+    /// Random bit patterns and damaged lines of every sort.
+    Wild,
+    /// Plausible days of flying.
+    Flight,
+    /// Values one step around every limit of the Rust, and counts around 50 and 125.
+    Edge,
+}
+
+impl Profile {
+    pub fn of(name: &str) -> Option<Profile> {
+        match name {
+            "wild" => Some(Profile::Wild),
+            "flight" => Some(Profile::Flight),
+            "edge" => Some(Profile::Edge),
+            _ => None,
+        }
+    }
+}
+
+/// Write a sheet of so many lines.
+pub fn generate(profile: Profile, seed: u64, lines: usize, out: &mut dyn Write) -> io::Result<()> {
+    let mut g = Generator {
+        random: Random::new(seed),
+        shuttle: Shuttle::new(),
+        answer: [0; ANSWER_FIELDS],
+        setpoint: [0.0; 3],
+        landing: false,
+        damage_one_in: if profile == Profile::Wild { 4 } else { 100 },
+        left: lines,
+        buffer: Vec::new(),
+        out,
+    };
+    let mut begun = false;
+    let end = loop {
+        let done = match profile {
+            _ if !begun => before_opening(&mut g),
+            Profile::Wild => wild::stretch(&mut g),
+            Profile::Flight => flight::day(&mut g),
+            Profile::Edge => edge::scenario(&mut g),
+        };
+        match done {
+            Ok(()) => begun = true,
+            Err(end) => break end,
+        }
+    };
+    if let End::Failed(e) = end {
+        return Err(e);
+    }
+    let Generator { buffer, out, .. } = g;
+    out.write_all(&buffer)?;
+    out.flush()
+}
+
+/// Calls with no opening yet.
+fn before_opening(g: &mut Generator) -> Step {
+    g.numbers(&[3, 0])?;
+    g.tick(&TickLine::default())?;
+    g.command(event::ARM)?;
+    g.points(&[])?;
+    g.zones(&[])?;
+    g.bytes(b"12")
+}
+
+/// Why the generator stops: enough lines, or the output failed.
+pub(crate) enum End {
+    Enough,
+    Failed(io::Error),
+}
+
+pub(crate) type Step = Result<(), End>;
+
+pub(crate) struct Generator<'a> {
+    pub random: Random,
+    pub shuttle: Shuttle,
+    /// The reference's answer to the last line.
+    pub answer: [u32; ANSWER_FIELDS],
+    /// The setpoint and the landing flag of the last flying tick.
+    pub setpoint: [f32; 3],
+    pub landing: bool,
+    damage_one_in: u64,
+    left: usize,
+    buffer: Vec<u8>,
+    out: &'a mut dyn Write,
+}
+
+/// Events by their numbers.
+pub(crate) mod event {
+    pub const ARM: u32 = 0;
+    pub const TAKEOFF: u32 = 1;
+    pub const MISSION: u32 = 2;
+    pub const LOITER: u32 = 3;
+    pub const RTL: u32 = 4;
+    pub const LAND: u32 = 5;
+    pub const REACHED_ALTITUDE: u32 = 7;
+    pub const TOUCHDOWN: u32 = 9;
+    pub const FAILSAFE: u32 = 10;
+}
+
+/// An opening's numbers; the floats by value.
+#[derive(Clone, Copy)]
+pub(crate) struct OpeningLine {
+    pub home: [f32; 3],
+    pub fence: f32,
+    pub cruise: f32,
+    pub low_volts: f32,
+    pub required: u32,
+    pub passed: u32,
+    pub calibrated: u32,
+}
+
+/// A tick's numbers; the floats by value.
+#[derive(Clone, Copy, Default)]
+pub(crate) struct TickLine {
+    pub dt: f32,
+    pub p: [f32; 3],
+    pub v: [f32; 3],
+    pub tilt: f32,
+    pub uncertainty: f32,
+    pub motor: f32,
+    pub nav: u32,
+    pub gnss: u32,
+    pub failed: u32,
+    pub rpm: u32,
+    pub volts: Option<f32>,
+    pub amps: Option<f32>,
+}
+
+impl TickLine {
+    fn numbers(&self) -> [u32; 18] {
+        let [px, py, pz] = self.p.map(f32::to_bits);
+        let [vx, vy, vz] = self.v.map(f32::to_bits);
+        let (battery, volts, amps) = match (self.volts, self.amps) {
+            (None, _) => (0, 0, 0),
+            (Some(v), None) => (1, v.to_bits(), 0),
+            (Some(v), Some(a)) => (2, v.to_bits(), a.to_bits()),
+        };
+        [
+            2,
+            self.dt.to_bits(),
+            px,
+            py,
+            pz,
+            vx,
+            vy,
+            vz,
+            self.tilt.to_bits(),
+            self.uncertainty.to_bits(),
+            self.motor.to_bits(),
+            self.nav,
+            self.gnss,
+            self.failed,
+            self.rpm,
+            battery,
+            volts,
+            amps,
+        ]
+    }
+}
+
+impl Generator<'_> {
+    /// Write a line and take its answer.
+    pub fn bytes(&mut self, line: &[u8]) -> Step {
+        if self.left == 0 {
+            return Err(End::Enough);
+        }
+        self.left -= 1;
+        self.answer = self.shuttle.answer(line);
+        if self.answer[0] == 0 && self.shuttle.report_due() {
+            self.setpoint = [self.answer[5], self.answer[6], self.answer[7]].map(f32::from_bits);
+            self.landing = self.answer[2] == 1;
+        }
+        self.buffer.extend_from_slice(line);
+        self.buffer.push(b'\n');
+        if self.buffer.len() > 1 << 16 {
+            self.out.write_all(&self.buffer).map_err(End::Failed)?;
+            self.buffer.clear();
+        }
+        Ok(())
+    }
+
+    /// Write a line of numbers; now and then a damaged line before it.
+    pub fn numbers(&mut self, numbers: &[u32]) -> Step {
+        let mut line = Vec::with_capacity(numbers.len() * 11);
+        write_fields(&mut line, numbers);
+        if self.random.one_in(self.damage_one_in) {
+            let damaged = damage::damaged(&mut self.random, numbers, &line);
+            self.bytes(&damaged)?;
+        }
+        self.bytes(&line)
+    }
+
+    pub fn open(&mut self, o: OpeningLine) -> Step {
+        let [x, y, z] = o.home.map(f32::to_bits);
+        let floats = [o.fence, o.cruise, o.low_volts].map(f32::to_bits);
+        let [fence, cruise, low] = floats;
+        self.numbers(&[1, x, y, z, fence, cruise, low, o.required, o.passed, o.calibrated])
+    }
+
+    pub fn tick(&mut self, tick: &TickLine) -> Step {
+        self.numbers(&tick.numbers())
+    }
+
+    /// A tick, and after it the report that is due, with this flag; once in 50 times a tick too early.
+    pub fn fly(&mut self, tick: &TickLine, failed: bool) -> Step {
+        self.tick(tick)?;
+        if self.shuttle.report_due() {
+            if self.random.one_in(50) {
+                self.tick(tick)?;
+            }
+            self.numbers(&[3, u32::from(failed)])?;
+        }
+        Ok(())
+    }
+
+    pub fn command(&mut self, event: u32) -> Step {
+        self.numbers(&[4, event, 1, 1])
+    }
+
+    pub fn points(&mut self, points: &[[f32; 3]]) -> Step {
+        let mut numbers = vec![5, points.len() as u32];
+        numbers.extend(points.iter().flatten().map(|x| x.to_bits()));
+        self.numbers(&numbers)
+    }
+
+    pub fn zones(&mut self, zones: &[[f32; 4]]) -> Step {
+        let mut numbers = vec![6, zones.len() as u32];
+        numbers.extend(zones.iter().flatten().map(|x| x.to_bits()));
+        self.numbers(&numbers)
+    }
+
+    pub fn mode(&self) -> Mode {
+        self.shuttle.mode().unwrap_or(Mode::Disarmed)
+    }
+
+    /// The supervisor; only after an opening.
+    pub fn supervisor(&self) -> &FlightSupervisor {
+        self.shuttle.supervisor().expect("opened")
+    }
+}

@@ -1,0 +1,18 @@
+//! The Rust supervisor behind document 01's sheet: the reference that the Rattle program is compared with.
+
+pub mod cases;
+pub mod compare;
+pub mod generate;
+pub mod random;
+pub mod sheet;
+pub mod stand_ins;
+
+#[cfg(feature = "cover")]
+pub mod cover;
+
+include!(concat!(env!("OUT_DIR"), "/mod_relay_fsm.rs"));
+include!(concat!(env!("OUT_DIR"), "/mod_relay_fsafe.rs"));
+include!(concat!(env!("OUT_DIR"), "/mod_relay_batt.rs"));
+include!(concat!(env!("OUT_DIR"), "/mod_relay_preflight.rs"));
+
+pub mod falcon_core;

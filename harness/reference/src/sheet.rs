@@ -1,0 +1,376 @@
+//! Document 01's sheet over the Rust supervisor: lines to calls, calls to answers.
+
+use crate::falcon_core::{CoreInputs, CoreOutputs, FlightBackend, FlightCore, FlightSupervisor, KeepoutZone, NavState};
+use crate::relay_fsm::{Event, Mode};
+use crate::relay_preflight::CheckTable;
+use crate::stand_ins::relay_calib::CalParams;
+use std::io::{self, Read, Write};
+
+/// Bytes of a field.
+pub const WIDTH: usize = 11;
+/// Fields of the longest line.
+pub const MAX_FIELDS: usize = 130;
+/// Fields of an answer.
+pub const ANSWER_FIELDS: usize = 10;
+/// The first blocker where none is.
+pub const NO_BLOCKER: u32 = 21;
+
+const EVENTS: [Event; 12] = [
+    Event::Arm,
+    Event::RequestTakeoff,
+    Event::RequestMission,
+    Event::RequestLoiter,
+    Event::RequestRtl,
+    Event::RequestLand,
+    Event::RequestDisarm,
+    Event::ReachedAltitude,
+    Event::ReachedHome,
+    Event::Touchdown,
+    Event::Failsafe,
+    Event::Terminate,
+];
+
+/// Kind 1.
+#[derive(Clone, Copy, Debug)]
+pub struct Opening {
+    pub home: [f32; 3],
+    pub fence: f32,
+    pub cruise: f32,
+    pub low_volts: f32,
+    pub required: u32,
+    pub passed: u32,
+    pub calibrated: bool,
+}
+
+/// Kind 2.
+#[derive(Clone, Copy, Debug)]
+pub struct Tick {
+    pub dt: f32,
+    pub core: CoreInputs,
+    pub rpm: bool,
+    pub volts: Option<f32>,
+    pub amps: Option<f32>,
+}
+
+/// What a sheet line asks.
+#[derive(Clone, Debug)]
+pub enum Call {
+    Opening(Opening),
+    Tick(Tick),
+    Report { failed: bool },
+    Command { event: Event, level: bool, throttle_low: bool },
+    Points(Vec<[f32; 3]>),
+    Zones(Vec<KeepoutZone>),
+}
+
+/// One field: spaces, then a decimal number below 2^32 without leading zeros.
+pub fn read_field(field: &[u8]) -> Option<u32> {
+    let digits = &field[field.iter().position(|&b| b != b' ')?..];
+    if digits.len() > 1 && digits[0] == b'0' {
+        return None;
+    }
+    let mut n = 0u64;
+    for &b in digits {
+        if !b.is_ascii_digit() {
+            return None;
+        }
+        n = n * 10 + u64::from(b - b'0');
+    }
+    u32::try_from(n).ok()
+}
+
+/// The numbers of a line, or `None` where refusal 2 fits.
+pub fn read_line(line: &[u8]) -> Option<Vec<u32>> {
+    if line.is_empty() || !line.len().is_multiple_of(WIDTH) || line.len() > MAX_FIELDS * WIDTH {
+        return None;
+    }
+    line.chunks_exact(WIDTH).map(read_field).collect()
+}
+
+/// The call of a line, or the first of refusals 2, 3, 4, 5 that fits.
+pub fn read_call(line: &[u8]) -> Result<Call, u32> {
+    let n = read_line(line).ok_or(2u32)?;
+    let f = |i: usize| f32::from_bits(n[i]);
+    let f3 = |i: usize| [f(i), f(i + 1), f(i + 2)];
+    let flag = |i: usize| n[i] <= 1;
+    let set = |i: usize| n[i] == 1;
+    let count = |want: u64| if n.len() as u64 == want { Ok(()) } else { Err(4u32) };
+    let range = |ok: bool| if ok { Ok(()) } else { Err(5u32) };
+    match n[0] {
+        1 => {
+            count(10)?;
+            range(n[7] < 1 << 21 && n[8] < 1 << 21 && flag(9))?;
+            Ok(Call::Opening(Opening {
+                home: f3(1),
+                fence: f(4),
+                cruise: f(5),
+                low_volts: f(6),
+                required: n[7],
+                passed: n[8],
+                calibrated: set(9),
+            }))
+        }
+        2 => {
+            count(18)?;
+            range((11..=14).all(flag) && n[15] <= 2)?;
+            range((n[15] >= 1 || n[16] == 0) && (n[15] == 2 || n[17] == 0))?;
+            Ok(Call::Tick(Tick {
+                dt: f(1),
+                core: CoreInputs {
+                    nav: NavState { p: f3(2), v: f3(5), tilt: f(8) },
+                    uncertainty: f(9),
+                    motor: f(10),
+                    nav_compromised: set(11),
+                    gnss_diverged: set(12),
+                    failed: set(13),
+                    failed_after_step: false,
+                },
+                rpm: set(14),
+                volts: (n[15] >= 1).then(|| f(16)),
+                amps: (n[15] == 2).then(|| f(17)),
+            }))
+        }
+        3 => {
+            count(2)?;
+            range(flag(1))?;
+            Ok(Call::Report { failed: set(1) })
+        }
+        4 => {
+            count(4)?;
+            range(n[1] <= 11 && flag(2) && flag(3))?;
+            Ok(Call::Command { event: EVENTS[n[1] as usize], level: set(2), throttle_low: set(3) })
+        }
+        5 => {
+            if n.len() < 2 {
+                return Err(4);
+            }
+            count(2 + 3 * u64::from(n[1]))?;
+            Ok(Call::Points((0..n[1] as usize).map(|k| f3(2 + 3 * k)).collect()))
+        }
+        6 => {
+            if n.len() < 2 {
+                return Err(4);
+            }
+            count(2 + 4 * u64::from(n[1]))?;
+            let zone = |k: usize| KeepoutZone { center: f3(2 + 4 * k), radius: f(5 + 4 * k) };
+            Ok(Call::Zones((0..n[1] as usize).map(zone).collect()))
+        }
+        _ => Err(3),
+    }
+}
+
+/// The backend of one tick: dt, battery and rpm of the sheet.
+impl FlightBackend for Tick {
+    fn dt(&self) -> f32 {
+        self.dt
+    }
+
+    fn read_battery_v(&mut self) -> Option<f32> {
+        self.volts
+    }
+
+    fn read_battery_i(&mut self) -> Option<f32> {
+        self.amps
+    }
+
+    fn read_motor_rpm(&mut self) -> Option<[i32; 4]> {
+        self.rpm.then_some([0; 4])
+    }
+}
+
+/// The bits of an answer's float: every NaN is 7FC00000. Judged on the bits, since the compiler drops `is_nan` on a root.
+pub fn answer_bits(x: f32) -> u32 {
+    let bits = x.to_bits();
+    if bits & 0x7FFF_FFFF > 0x7F80_0000 {
+        0x7FC0_0000
+    } else {
+        bits
+    }
+}
+
+/// One shuttle: its supervisor once opened, and while a report is due the supervisor before the tick with that tick.
+#[derive(Default)]
+pub struct Shuttle {
+    supervisor: Option<FlightSupervisor>,
+    due: Option<(FlightSupervisor, Tick)>,
+}
+
+impl Shuttle {
+    pub fn new() -> Self {
+        Shuttle::default()
+    }
+
+    /// The supervisor, once there was an opening.
+    pub fn supervisor(&self) -> Option<&FlightSupervisor> {
+        self.supervisor.as_ref()
+    }
+
+    pub fn report_due(&self) -> bool {
+        self.due.is_some()
+    }
+
+    pub fn mode(&self) -> Option<Mode> {
+        self.supervisor.as_ref().map(|s| s.mode())
+    }
+
+    /// Answer a line.
+    pub fn answer(&mut self, line: &[u8]) -> [u32; ANSWER_FIELDS] {
+        match read_call(line) {
+            Ok(call) => self.call(call),
+            Err(refusal) => self.columns(refusal, CoreOutputs::default()),
+        }
+    }
+
+    /// Answer a call.
+    pub fn call(&mut self, call: Call) -> [u32; ANSWER_FIELDS] {
+        match self.accept(call) {
+            Ok(outputs) => self.columns(0, outputs),
+            Err(refusal) => self.columns(refusal, CoreOutputs::default()),
+        }
+    }
+
+    /// Carry out a call, or the first of refusals 1, 6, 7, 8 that fits.
+    fn accept(&mut self, call: Call) -> Result<CoreOutputs, u32> {
+        let none = CoreOutputs::default();
+        if let Call::Opening(opening) = call {
+            self.supervisor = Some(open(opening));
+            self.due = None;
+            return Ok(none);
+        }
+        let supervisor = self.supervisor.as_mut().ok_or(1u32)?;
+        if self.due.is_some() && !matches!(call, Call::Report { .. }) {
+            return Err(6);
+        }
+        match call {
+            Call::Opening(_) => unreachable!(),
+            Call::Tick(tick) => {
+                let before = supervisor.clone();
+                let outputs = run(supervisor, tick);
+                if !outputs.motors_off {
+                    self.due = Some((before, tick));
+                }
+                Ok(outputs)
+            }
+            Call::Report { failed } => {
+                let (before, mut tick) = self.due.take().ok_or(7u32)?;
+                if failed {
+                    *supervisor = before;
+                    tick.core.failed_after_step = true;
+                    run(supervisor, tick);
+                }
+                Ok(none)
+            }
+            Call::Command { event, level, throttle_low } => {
+                supervisor.command(event, level, throttle_low);
+                Ok(none)
+            }
+            Call::Points(points) => {
+                if supervisor.set_mission_waypoints(&points) {
+                    Ok(none)
+                } else {
+                    Err(8)
+                }
+            }
+            Call::Zones(zones) => {
+                supervisor.set_keepout_zones(&zones);
+                Ok(none)
+            }
+        }
+    }
+
+    /// The answer's ten numbers.
+    fn columns(&self, refusal: u32, outputs: CoreOutputs) -> [u32; ANSWER_FIELDS] {
+        let (mode, outstanding, blocker) = match &self.supervisor {
+            None => (0, 0, NO_BLOCKER),
+            Some(s) => (s.mode() as u32, s.prearm_failing_mask().count_ones(), s.arm_blocked_check().map_or(NO_BLOCKER, |id| id as u32)),
+        };
+        let [x, y, z] = outputs.setpoint.map(answer_bits);
+        [refusal, mode, u32::from(outputs.landing), u32::from(outputs.motors_off), u32::from(outputs.rearm), x, y, z, outstanding, blocker]
+    }
+}
+
+/// The supervisor of an opening. Without the calibration flag `set_calibration` is not called: the first tick then reads the flag.
+fn open(o: Opening) -> FlightSupervisor {
+    let table = CheckTable::from_masks(o.required, o.passed);
+    let mut supervisor = FlightSupervisor::with_core(FlightCore::default(), o.home, o.fence, o.cruise, o.low_volts, table);
+    if o.calibrated {
+        supervisor.set_calibration(CalParams { valid: true });
+    }
+    supervisor
+}
+
+/// One `step` with a tick's inputs.
+fn run(supervisor: &mut FlightSupervisor, mut tick: Tick) -> CoreOutputs {
+    supervisor.core_mut().begin(tick.core);
+    supervisor.step(&mut tick);
+    supervisor.core().outputs
+}
+
+/// Write numbers as fields, without a newline.
+pub fn write_fields(out: &mut Vec<u8>, numbers: &[u32]) {
+    for &number in numbers {
+        let mut field = [b' '; WIDTH];
+        let mut n = number;
+        let mut at = WIDTH;
+        loop {
+            at -= 1;
+            field[at] = b'0' + (n % 10) as u8;
+            n /= 10;
+            if n == 0 {
+                break;
+            }
+        }
+        out.extend_from_slice(&field);
+    }
+}
+
+/// Answer every line of the input: a last line without newline counts, a newline at the very end begins no further line.
+pub fn answer_sheet(input: &mut impl Read, output: &mut impl Write) -> io::Result<()> {
+    let mut shuttle = Shuttle::new();
+    each_line(input, |line| {
+        let mut answer = Vec::with_capacity(ANSWER_FIELDS * WIDTH + 1);
+        write_fields(&mut answer, &shuttle.answer(line));
+        answer.push(b'\n');
+        output.write_all(&answer)
+    })?;
+    output.flush()
+}
+
+/// Hand over each line of the input, of a line over the longest length no more than one byte too many.
+pub fn each_line(input: &mut impl Read, mut each: impl FnMut(&[u8]) -> io::Result<()>) -> io::Result<()> {
+    let mut buffer = vec![0u8; 64 * 1024];
+    let mut carried: Vec<u8> = Vec::new();
+    let mut begun = false;
+    let carry = |carried: &mut Vec<u8>, part: &[u8]| {
+        let room = (MAX_FIELDS * WIDTH + 1).saturating_sub(carried.len());
+        carried.extend_from_slice(&part[..part.len().min(room)]);
+    };
+    loop {
+        let have = match input.read(&mut buffer) {
+            Ok(0) => break,
+            Ok(have) => have,
+            Err(e) if e.kind() == io::ErrorKind::Interrupted => continue,
+            Err(e) => return Err(e),
+        };
+        let mut rest = &buffer[..have];
+        while let Some(end) = rest.iter().position(|&b| b == b'\n') {
+            if begun {
+                carry(&mut carried, &rest[..end]);
+                each(&carried)?;
+                carried.clear();
+                begun = false;
+            } else {
+                each(&rest[..end])?;
+            }
+            rest = &rest[end + 1..];
+        }
+        if !rest.is_empty() {
+            carry(&mut carried, rest);
+            begun = true;
+        }
+    }
+    if begun {
+        each(&carried)?;
+    }
+    Ok(())
+}
