@@ -1,0 +1,56 @@
+-- A call by cases: which refusal fits, and what an accepted call gives.
+use Prim.Native.Nat.{ℕ, suc, _%_}
+use borrow.Author.Tests.{not-false}
+use mathlib.Core.Bool.{Bool, true, false, not}
+use mathlib.Core.List.{List}
+use mathlib.Core.Path.{_≡_, sym, _∙_}
+use lib.Dec.{eqb, eqb·suc-zero}
+use lib.ListN.{length}
+use lib.Ieee.{Float}
+use Rattle.falcon_core.specs.declared.state.Tick.{Tick}
+use Rattle.falcon_core.specs.declared.state.Supervisor.{Supervisor}
+use Rattle.falcon_core.specs.declared.tick.Ticked.{Ticked}
+use Rattle.falcon_core.specs.declared.calls.Output.the-variants.{Nothing, Ticks}
+use Rattle.falcon_core.specs.declared.state.Mission.{Mission}
+use Rattle.falcon_core.specs.State.{withMission}
+use Rattle.falcon_core.specs.Mission.{triedOf, allAdmissibleOf, loadedOf}
+use Rattle.falcon_core.specs.Tick.{tickOf}
+use Rattle.falcon_core.specs.Calls.{Request, ticks, points, dueAfter, refusalOf, afterOf, outputOf, refusedOf, acceptedOf, stepOf}
+
+-- a refusal that fits is answered and keeps the state
+pub step-refused : (s : Supervisor) (r : Request) (n : ℕ) → refusalOf s r ≡ suc n → stepOf s r ≡ refusedOf s (suc n)
+unfolding stepOf
+step-refused s r n h = rw (h, eqb·suc-zero n)
+
+-- where none fits the call is accepted
+pub step-accepted : (s : Supervisor) (r : Request) → refusalOf s r ≡ 0 → stepOf s r ≡ acceptedOf (afterOf s r) (outputOf s r)
+unfolding stepOf
+step-accepted s r h = rw h
+
+-- an accepted tick, from what its parts are
+pub tick-accepted :
+    (s : Supervisor) (t : Tick) (k : Ticked) (due : Bool) →
+    k ≡ tickOf (s .flight) t →
+    due ≡ dueAfter (k .answer) →
+    not (s .opened) ≡ false →
+    s .«report_due» ≡ false →
+    acceptedOf (record { flight = k .flight; opened = s .opened; «report_due» = due }) (Ticks (k .answer)) ≡ stepOf s (ticks t)
+unfolding refusalOf afterOf outputOf
+tick-accepted s t k due ek ed o d = let h : refusalOf s (ticks t) ≡ 0 = simp (o, d) in rw (step-accepted s (ticks t) h, ed, ek)
+
+-- an accepted list, from what its parts are
+pub points-accepted :
+    (s : Supervisor) (l : List Float) (m : Mission) (n : ℕ) (ok : Bool) →
+    m ≡ loadedOf l →
+    n ≡ triedOf l →
+    ok ≡ allAdmissibleOf (s .flight .config) l n →
+    eqb (length l % 3) 0 ≡ true →
+    not (s .opened) ≡ false →
+    s .«report_due» ≡ false →
+    not ok ≡ false →
+    acceptedOf (record { flight = withMission (s .flight) m; opened = s .opened; «report_due» = s .«report_due» }) Nothing ≡ stepOf s (points l)
+unfolding refusalOf afterOf outputOf
+points-accepted s l m n ok em en eo c o d b =
+    let a : allAdmissibleOf (s .flight .config) l (triedOf l) ≡ true = simp en at (sym eo ∙ not-false ok b) in
+    let h : refusalOf s (points l) ≡ 0 = simp (c, o, d, a) in
+    rw (step-accepted s (points l) h, em)

@@ -1,0 +1,3 @@
+pub mod Waypoints
+pub mod Milestones
+pub mod Answers

@@ -1,0 +1,17 @@
+use Rattle.falcon_core.specs.State.{unopened}
+use borrow.Author.Needs.{needs}
+use Rattle.falcon_core.proofs.state.Supervisor.new.Statement.{statement}
+use Rattle.falcon_core.proofs.state.Supervisor.new.Tie as tie
+
+origin-requires : tie.Need-origin-requires
+origin-requires c κs = search needs
+
+opened-requires : tie.Need-opened-requires
+opened-requires c κs = search needs
+
+returns : tie.Need-returns
+unfolding unopened
+returns c = simp (c .opened .ensures, c .before .origin .ensures)
+
+pub new-spec : {M : Type 1} → statement M
+new-spec = tie.close (tie.spec origin-requires opened-requires returns)

@@ -1,0 +1,77 @@
+use native.Mathlib.Omega.{arith}
+use mathlib.Core.Path.{refl, _∙_}
+use Rattle.falcon_core.proofs.Answers.{points-accepted}
+use Prim.Native.Nat.{_%_}
+use lib.ListN.{length}
+use Rattle.falcon_core.proofs.Waypoints.{tried-lent}
+use Rattle.falcon_core.specs.Calls.{stepOf, refusalOf, afterOf, outputOf}
+use borrow.Author.Tests.{eq-eqb, ne-eqb}
+use borrow.Author.Needs.{needs}
+use Rattle.falcon_core.proofs.state.Supervisor.set_mission_waypoints.Statement.{statement}
+use Rattle.falcon_core.proofs.state.Supervisor.set_mission_waypoints.Tie as tie
+
+refused-requires : tie.Need-refused-requires
+refused-requires c κs = search needs
+
+returns : tie.Need-returns
+unfolding stepOf refusalOf afterOf outputOf
+returns c = (simp (c .refused .ensures, ne-eqb (length (c .before .before .before .args .lent .now) % 3) 0 (c .before .if1 .taken)), refl)
+
+refused-requires-2 : tie.Need-refused-requires-2
+refused-requires-2 c κs = search needs
+
+returns-2 : tie.Need-returns-2
+unfolding stepOf refusalOf afterOf outputOf
+returns-2 c = (simp (c .refused2 .ensures, c .before .if2 .taken, eq-eqb (length (c .before .before .before .before .before .args .lent .now) % 3) 0 (c .before .before .before .if1 .left)), refl)
+
+refused-requires-3 : tie.Need-refused-requires-3
+refused-requires-3 c κs = search needs
+
+returns-3 : tie.Need-returns-3
+unfolding stepOf refusalOf afterOf outputOf
+returns-3 c = (simp (c .refused3 .ensures, c .before .if3 .taken, c .before .before .if2 .left, eq-eqb (length (c .before .before .before .before .before .before .args .lent .now) % 3) 0 (c .before .before .before .before .if1 .left)), refl)
+
+tried-requires : tie.Need-tried-requires
+tried-requires c κs = search needs
+
+all-admissible-requires : tie.Need-all-admissible-requires
+all-admissible-requires c κs = omega (arith, c .tried .ensures, tried-lent (c .before .before .before .before .before .before .before .args .lent .now))
+
+refused-requires-4 : tie.Need-refused-requires-4
+refused-requires-4 c κs = search needs
+
+returns-4 : tie.Need-returns-4
+unfolding stepOf refusalOf afterOf outputOf
+returns-4 c = (simp (c .refused4 .ensures, simp (c .before .before .all-admissible .ensures, c .before .before .before .tried .ensures) at (c .before .if4 .taken), c .before .before .before .before .before .if3 .left, c .before .before .before .before .before .before .if2 .left, eq-eqb (length (c .before .before .before .before .before .before .before .before .before .before .args .lent .now) % 3) 0 (c .before .before .before .before .before .before .before .before .if1 .left)), refl)
+
+loaded-requires : tie.Need-loaded-requires
+loaded-requires c κs = search needs
+
+accepted-requires : tie.Need-accepted-requires
+accepted-requires c κs = search needs
+
+returns-5 : tie.Need-returns-5
+returns-5 c = (
+  c .accepted .ensures
+      ∙ points-accepted _ (c .before .before .before .before .before .before .before .before .before .before .before .before .args .lent .now) _ _ _ (c .before .before .loaded .ensures) (c .before .before .before .before .before .tried .ensures) (c .before .before .before .before .all-admissible .ensures)
+      (eq-eqb (length (c .before .before .before .before .before .before .before .before .before .before .before .before .args .lent .now) % 3) 0 (c .before .before .before .before .before .before .before .before .before .before .if1 .left)) (c .before .before .before .before .before .before .before .before .if2 .left) (c .before .before .before .before .before .before .before .if3 .left) (c .before .before .before .if4 .left),
+  refl,
+)
+
+pub set-mission-waypoints-spec : {M : Type 1} → statement M
+set-mission-waypoints-spec =
+    tie.close
+    (tie.spec
+    refused-requires
+    returns
+    refused-requires-2
+    returns-2
+    refused-requires-3
+    returns-3
+    tried-requires
+    all-admissible-requires
+    refused-requires-4
+    returns-4
+    loaded-requires
+    accepted-requires
+    returns-5)

@@ -1,0 +1,11 @@
+pub mod State
+pub mod Geometry
+pub mod Mission
+pub mod Zones
+pub mod Preflight
+pub mod Failsafe
+pub mod Milestone
+pub mod Hold
+pub mod Setpoint
+pub mod Tick
+pub mod Calls

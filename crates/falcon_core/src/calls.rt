@@ -1,0 +1,286 @@
+// The calls by lent values. Each takes the state and gives the state after it with its answer.
+ghost use mathlib.Core.Path.{_≡_};
+ghost use Rattle.falcon_core.specs.Calls.{opens, ticks, reports, commands, points, allowedOf, commandedBy, dueAfter, answerOf, refusedOf, acceptedOf};
+ghost use Rattle.falcon_core.specs.Calls.{stepOf, flag, numbersOf};
+use crate::failsafe::reported;
+use crate::mission::all_admissible;
+use crate::mission::loaded;
+use crate::mission::tried;
+use crate::state::FlightSupervisor;
+use crate::state::Opening;
+use crate::state::Supervisor;
+use crate::state::Tick;
+use crate::tick::TickAnswer;
+use crate::tick::tick;
+use relay_fsm::Event;
+use relay_fsm::Gates;
+use relay_fsm::Mode;
+use relay_math::to_bits;
+use relay_preflight::CheckTable;
+use relay_preflight::TableVerdict;
+use relay_preflight::arm_check_table;
+
+// What an answer holds beside the mode and the checks: a tick's answer, or nothing.
+pub enum Output {
+    Nothing,
+    Ticks(TickAnswer),
+}
+
+// The answer to a call.
+pub struct Answer {
+    pub refusal: u32,
+    pub mode: Mode,
+    pub output: Output,
+    pub outstanding: u32,
+    pub verdict: TableVerdict,
+}
+
+// The state after a call, and the answer.
+pub struct Answered {
+    pub supervisor: Supervisor,
+    pub answer: Answer,
+}
+
+impl Answer {
+    // No refusal.
+    pub const ACCEPTED: u32 = 0;
+    // No opening yet.
+    pub const NO_OPENING: u32 = 1;
+    // Lent points not three each.
+    pub const WRONG_COUNT: u32 = 4;
+    // A mask of 2^21 or more.
+    pub const OUT_OF_RANGE: u32 = 5;
+    // A report is due, and the call is no report or opening.
+    pub const REPORT_DUE: u32 = 6;
+    // A report, and none is due.
+    pub const NO_REPORT_DUE: u32 = 7;
+    // A tried point is inadmissible.
+    pub const INADMISSIBLE: u32 = 8;
+
+    // The ten numbers of an answer line.
+    pub fn numbers(self) -> [u32; 10]
+        ensures { λ r. ⌜ r ≡ numbersOf self ⌝ }
+    {
+        let mode = self.mode;
+        let verdict = self.verdict;
+        let output = self.output;
+        let m = mode.number();
+        let o = self.outstanding;
+        let b = verdict.number();
+        match output {
+            Output::Nothing => [self.refusal, m, 0, 0, 0, 0, 0, 0, o, b],
+            Output::Ticks(answer) => match answer {
+                TickAnswer::MotorsOff => [self.refusal, m, 0, 1, 0, 0, 0, 0, o, b],
+                TickAnswer::Setpoint {
+                    ned,
+                    landing,
+                    rearm,
+                } => [
+                    self.refusal,
+                    m,
+                    number(landing),
+                    0,
+                    number(rearm),
+                    to_bits(ned.x),
+                    to_bits(ned.y),
+                    to_bits(ned.z),
+                    o,
+                    b,
+                ],
+            },
+        }
+    }
+}
+
+// 0 or 1.
+fn number(b: bool) -> u32
+    ensures { λ r. ⌜ r ≡ flag b ⌝ }
+{
+    if b {
+        return 1;
+    }
+    0
+}
+
+// The answer of a state.
+fn answer_of(s: Supervisor, refusal: u32, output: Output) -> Answer
+    ensures { λ r. ⌜ r ≡ answerOf s refusal output ⌝ }
+{
+    let fsm = s.flight.fsm;
+    let mode = fsm.mode;
+    let table = s.flight.check_table;
+    Answer {
+        refusal,
+        mode,
+        output,
+        outstanding: table.outstanding(),
+        verdict: arm_check_table(table),
+    }
+}
+
+// A refusal keeps the state.
+fn refused(s: Supervisor, refusal: u32) -> Answered
+    ensures { λ r. ⌜ r ≡ refusedOf s refusal ⌝ }
+{
+    let a = answer_of(s, refusal, Output::Nothing);
+    Answered {
+        supervisor: s,
+        answer: a,
+    }
+}
+
+fn accepted(s: Supervisor, output: Output) -> Answered
+    ensures { λ r. ⌜ r ≡ acceptedOf s output ⌝ }
+{
+    let a = answer_of(s, Answer::ACCEPTED, output);
+    Answered {
+        supervisor: s,
+        answer: a,
+    }
+}
+
+// A report is due after every tick that does not say motors off.
+fn due_after(answer: TickAnswer) -> bool
+    ensures { λ r. ⌜ r ≡ dueAfter answer ⌝ }
+{
+    match answer {
+        TickAnswer::MotorsOff => false,
+        TickAnswer::Setpoint {
+            ned: _,
+            landing: _,
+            rearm: _,
+        } => true,
+    }
+}
+
+// No check blocks arming.
+fn allowed(verdict: TableVerdict) -> bool
+    ensures { λ r. ⌜ r ≡ allowedOf verdict ⌝ }
+{
+    match verdict {
+        TableVerdict::Allowed => true,
+        TableVerdict::Blocked(_) => false,
+    }
+}
+
+// A command is handed to the mode machine.
+fn commanded(f: FlightSupervisor, ev: Event, level: bool, throttle_low: bool) -> FlightSupervisor
+    ensures { λ r. ⌜ r ≡ commandedBy f ev level «throttle_low» ⌝ }
+{
+    let fsm = f.fsm;
+    let table = f.check_table;
+    let gates = Gates {
+        level,
+        throttle_low,
+        have_position: true,
+        prearm_ok: allowed(arm_check_table(table)),
+    };
+    let after = fsm.on(ev, gates);
+    let mut next = f;
+    next.fsm = after;
+    next
+}
+
+impl Supervisor {
+    // Opens the supervisor anew; taken at any time.
+    pub fn opening(self, o: Opening) -> Answered
+        ensures { λ r. ⌜ r ≡ stepOf self (opens o) ⌝ }
+    {
+        if (o.required >= CheckTable::MASK_LIMIT) | (o.passed >= CheckTable::MASK_LIMIT) {
+            return refused(self, Answer::OUT_OF_RANGE);
+        }
+        let flight = FlightSupervisor::opened(o);
+        let next = Supervisor {
+            flight,
+            opened: true,
+            report_due: false,
+        };
+        accepted(next, Output::Nothing)
+    }
+
+    // One tick of the flight core.
+    pub fn tick(self, t: Tick) -> Answered
+        ensures { λ r. ⌜ r ≡ stepOf self (ticks t) ⌝ }
+    {
+        if !self.opened {
+            return refused(self, Answer::NO_OPENING);
+        }
+        if self.report_due {
+            return refused(self, Answer::REPORT_DUE);
+        }
+        let flight = self.flight;
+        let ticked = tick(flight, t);
+        let flight = ticked.flight;
+        let answer = ticked.answer;
+        let next = Supervisor {
+            flight,
+            opened: self.opened,
+            report_due: due_after(answer),
+        };
+        accepted(next, Output::Ticks(answer))
+    }
+
+    // Whether a motor failed while the core ran the latest tick.
+    pub fn report(self, failed: bool) -> Answered
+        ensures { λ r. ⌜ r ≡ stepOf self (reports failed) ⌝ }
+    {
+        if !self.opened {
+            return refused(self, Answer::NO_OPENING);
+        }
+        if !self.report_due {
+            return refused(self, Answer::NO_REPORT_DUE);
+        }
+        let flight = self.flight;
+        let after = reported(flight, failed);
+        let next = Supervisor {
+            flight: after,
+            opened: self.opened,
+            report_due: false,
+        };
+        accepted(next, Output::Nothing)
+    }
+
+    // A command of the pilot.
+    pub fn command(self, ev: Event, level: bool, throttle_low: bool) -> Answered
+        ensures { λ r. ⌜ r ≡ stepOf self (commands ev level «throttle_low») ⌝ }
+    {
+        if !self.opened {
+            return refused(self, Answer::NO_OPENING);
+        }
+        if self.report_due {
+            return refused(self, Answer::REPORT_DUE);
+        }
+        let flight = self.flight;
+        let after = commanded(flight, ev, level, throttle_low);
+        let mut next = self;
+        next.flight = after;
+        accepted(next, Output::Nothing)
+    }
+
+    // A new list of waypoints, three numbers each; one bad point refuses the list and the old one stays.
+    pub fn set_mission_waypoints(self, lent: &[f32]) -> Answered
+        ensures answered { λ r. ⌜ r ≡ stepOf self (points (now (lent .entry))) ⌝ }
+        ensures unchanged { λ _. ⌜ now (lent .exit) ≡ now (lent .entry) ⌝ }
+    {
+        if lent.len() % 3 != 0 {
+            return refused(self, Answer::WRONG_COUNT);
+        }
+        if !self.opened {
+            return refused(self, Answer::NO_OPENING);
+        }
+        if self.report_due {
+            return refused(self, Answer::REPORT_DUE);
+        }
+        let config = self.flight.config;
+        let n = tried(lent);
+        if !all_admissible(config, lent, n) {
+            return refused(self, Answer::INADMISSIBLE);
+        }
+        let mission = loaded(lent);
+        let mut flight = self.flight;
+        flight.mission = mission;
+        let mut next = self;
+        next.flight = flight;
+        accepted(next, Output::Nothing)
+    }
+}
