@@ -1,3 +1,5 @@
+pub mod LineAgain
+pub mod LineTurns
 pub mod Reading
 pub mod RoundTrip
 pub mod Writing

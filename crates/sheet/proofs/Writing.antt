@@ -8,7 +8,8 @@ use mathlib.Core.Path.{_≡_, refl, sym, ap, _∙_}
 use mathlib.Core.List.{List, [], _∷_, _++_, append-nil, append-assoc}
 use lib.ListN.{length, getD, set, take, drop, replicate, length-append, length-take, length-drop, length-set, length-replicate, replicate-append-replicate, take-append-drop}
 use lib.Seq.{length-take-le, drop-cons, set-at, take-at, drop-at, take-suc, take-length, drop-append-add, drop-drop}
-use Rattle.sheet.specs.Field.{fieldWidth, column, columns, fieldOf, lineOf, spaces, put}
+use Rattle.sheet.specs.Field.{fieldWidth, column, columns, fieldOf, spaces, put}
+use Rattle.sheet.specs.Line.{lineOf}
 use Rattle.sheet.proofs.RoundTrip.{columns-none, columns-more, length-columns, length-field}
 
 -- ---- put

@@ -53,11 +53,6 @@ columns (suc k) n = columns k (n / 10) ++ (column n ∷ [])
 unfoldable pub fieldOf : ℕ → List ℕ
 fieldOf n = columns (fieldWidth - 1) (n / 10) ++ ((48 + n % 10) ∷ [])
 
--- the fields of several numbers, one after the other
-unfoldable pub lineOf : List ℕ → List ℕ
-lineOf [] = []
-lineOf (n ∷ ns) = fieldOf n ++ lineOf ns
-
 -- k spaces
 abbrev pub spaces : ℕ → List ℕ
 spaces k = replicate k 32

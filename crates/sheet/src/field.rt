@@ -5,7 +5,8 @@ ghost use mathlib.Core.Path.{_≡_};
 ghost use mathlib.Core.List.{_++_};
 ghost use lib.ListN.{length, drop};
 ghost use lib.Seq.{slice};
-ghost use Rattle.sheet.specs.Field.{fieldWidth, digits, SkipsTo, readField, fieldOf, lineOf, spaces, put};
+ghost use Rattle.sheet.specs.Field.{fieldWidth, digits, SkipsTo, readField, fieldOf, spaces, put};
+ghost use Rattle.sheet.specs.Line.{lineOf};
 
 // The bytes of a field.
 pub const FIELD: usize = 11;
