@@ -1,5 +1,6 @@
 pub mod LineAgain
 pub mod LineTurns
+pub mod LinesAgain
 pub mod Reading
 pub mod RoundTrip
 pub mod Writing
