@@ -46,6 +46,12 @@ unfoldable pub together : List (List ℕ) → List ℕ
 together [] = []
 together (c ∷ cs) = c ++ together cs
 
+-- the state after several lines, with the state after one
+module _ {S : Type 0} (after : S → List ℕ → S) where
+  unfoldable pub statesAfter : S → List (List ℕ) → S
+  statesAfter s [] = s
+  statesAfter s (l ∷ ls) = statesAfter (after s l) ls
+
 -- a step for one line: the state after it, and the bytes of its answer
 module _ {S : Type 0} (after : S → List ℕ → S) (reply : S → List ℕ → List ℕ) where
   -- "answers each line with a line"
@@ -53,13 +59,8 @@ module _ {S : Type 0} (after : S → List ℕ → S) (reply : S → List ℕ →
   answers s [] = []
   answers s (l ∷ ls) = reply s l ++ (newline ∷ answers (after s l) ls)
 
-  -- the state after the lines
-  unfoldable pub statesAfter : S → List (List ℕ) → S
-  statesAfter s [] = s
-  statesAfter s (l ∷ ls) = statesAfter (after s l) ls
-
   -- the answers of a reader of parts, which keeps of the line begun no more than one byte over the limit
   unfoldable pub stream : ℕ → S → List ℕ → List (List ℕ) → List ℕ
   stream limit s p [] = answers s (lastLine p)
   stream limit s p (c ∷ cs) =
-      answers s (whole (p ++ c)) ++ stream limit (statesAfter s (whole (p ++ c))) (take (limit + 1) (rest (p ++ c))) cs
+      answers s (whole (p ++ c)) ++ stream limit (statesAfter after s (whole (p ++ c))) (take (limit + 1) (rest (p ++ c))) cs
