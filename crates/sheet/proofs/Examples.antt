@@ -1,15 +1,16 @@
 -- Fields and lines computed, and a step for lines that numbers them: no proof cites this file. Assumes nothing.
-use Prim.Native.Nat.{ℕ, _+_, _^_, _<_}
-use native.Mathlib.Omega.{arith}
-use mathlib.Core.Path.{_≡_, refl}
+use Prim.Native.Nat.{ℕ, _+_}
+use mathlib.Core.Path.{_≡_, refl, sym, ap}
 use mathlib.Core.List.{List, [], _∷_, _++_}
-use lib.ListN.{length, take}
+use lib.ListN.{take}
+use lib.Seq.{take-take}
+use lib.Dec.{lit≤}
 use Rattle.sheet.specs.declared.field.FieldRead.{FieldRead}
 use Rattle.sheet.specs.declared.field.FieldRead.the-variants.{Number, Bad}
 use Rattle.sheet.specs.Field.{inRange, digits, start, spaced, readField, column, columns, fieldOf, spaces}
 use Rattle.sheet.specs.Line.{read, broken, onto, before, fields, lengthOk, readWithin, readLine, lineOf}
 use Rattle.sheet.specs.Lines.{ahead, whole, joined, rest, lastLine, linesOf, together, answers, statesAfter, stream}
-use Rattle.sheet.proofs.LinesCut.{stream-whole}
+use Rattle.sheet.proofs.LinesCut.{stream-all}
 
 -- the largest number fills ten columns
 largest : fieldOf 4294967295 ≡ 32 ∷ 52 ∷ 50 ∷ 57 ∷ 52 ∷ 57 ∷ 54 ∷ 55 ∷ 50 ∷ 57 ∷ 53 ∷ []
@@ -54,3 +55,9 @@ lines = refl
 parts : stream counted numbered 1 1 [] ((97 ∷ []) ∷ (10 ∷ 10 ∷ 98 ∷ []) ∷ (99 ∷ []) ∷ (100 ∷ []) ∷ []) ≡ 49 ∷ 97 ∷ 10 ∷ 50 ∷ 10 ∷ 51 ∷ 98 ∷ 99 ∷ 10 ∷ []
 unfolding stream statesAfter answers whole ahead rest joined lastLine counted numbered
 parts = refl
+
+-- and cut anywhere
+anywhere : (cs : List (List ℕ)) → stream counted numbered 1 1 [] cs ≡ answers counted numbered 1 (linesOf (together cs))
+unfolding counted numbered
+anywhere =
+    stream-all counted numbered 1 (λ s l h. refl) (λ s l h. ap (λ (t : List ℕ). (48 + s) ∷ t) (sym (take-take 2 2 l (lit≤ tt)))) 1

@@ -3,6 +3,7 @@ pub mod LineAgain
 pub mod LineTurns
 pub mod LinesAgain
 pub mod LinesCut
+pub mod LinesGoing
 pub mod Reading
 pub mod RoundTrip
 pub mod Writing

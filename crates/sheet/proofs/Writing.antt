@@ -191,7 +191,7 @@ line-append [] ms = refl
 line-append (n ∷ ns) ms = ap (λ (l : List ℕ). fieldOf n ++ l) (line-append ns ms) ∙ sym (append-assoc (fieldOf n) (lineOf ns) (lineOf ms))
 
 -- bytes put where the front ends
-put-seam : (p d : List ℕ) (at : ℕ) (f : List ℕ) → length p ≡ at → put (p ++ drop at d) at f ≡ (p ++ f) ++ drop (at + length f) d
+pub put-seam : (p d : List ℕ) (at : ℕ) (f : List ℕ) → length p ≡ at → put (p ++ drop at d) at f ≡ (p ++ f) ++ drop (at + length f) d
 unfolding put
 put-seam p d at f e =
     let back : drop (at + length f) (p ++ drop at d) ≡ drop (at + length f) d =

@@ -1,0 +1,117 @@
+-- A loop that answers the lines of an input one after the other into a buffer: its turns. Assumes nothing.
+use Prim.Native.Nat.{ℕ, zero, suc, _+_, _-_, _≤_, _<_}
+use native.Mathlib.Numerals.{add-one}
+use native.Mathlib.Omega.{arith}
+use mathlib.Core.Path.{_≡_, refl, sym, ap, _∙_}
+use mathlib.Core.List.{List, [], _∷_, _++_, append-nil, append-assoc}
+use lib.ListN.{length, take, drop, length-append, length-drop, drop-of-length-le}
+use lib.Seq.{length-take-le, take-all, drop-drop}
+use Rattle.sheet.specs.Field.{put}
+use Rattle.sheet.specs.Lines.{newline, whole, joined, lineEnd, answers, statesAfter}
+use Rattle.sheet.proofs.LinesAgain.{joined-append, whole-off, used-most, line-at, line-none}
+use Rattle.sheet.proofs.LinesCut.{answers-append, states-append}
+use Rattle.sheet.proofs.Writing.{put-seam}
+
+-- ---- a part of a buffer that is lent from a place to the end
+
+-- the part is the buffer from the place on
+pub to-end : (d : List ℕ) (at : ℕ) → take (length d - at) (drop at d) ≡ drop at d
+to-end d at = take-all (length d - at) (drop at d) (omega (arith, length-drop at d))
+
+-- bytes at the front of the part are bytes put at the place
+pub placed-buffer : (d : List ℕ) (at : ℕ) (last s : List ℕ) → last ≡ s ++ drop (length s) (drop at d)
+    → take at d ++ (last ++ drop (length d - at) (drop at d)) ≡ put d at s
+unfolding put
+placed-buffer d at last s e =
+    let all : length (drop at d) ≤ length d - at = omega (arith, length-drop at d) in
+    let none : drop (length d - at) (drop at d) ≡ [] = drop-of-length-le (drop at d) all in
+    ap (λ (t : List ℕ). take at d ++ (last ++ t)) none
+    ∙ ap (λ (t : List ℕ). take at d ++ t) (append-nil last ∙ e ∙ ap (λ (t : List ℕ). s ++ t) (drop-drop (length s) at d))
+
+-- ---- one line more
+
+take-next : (ls : List (List ℕ)) (k : ℕ) (l : List ℕ) (ms : List (List ℕ)) → drop k ls ≡ l ∷ ms → take (suc k) ls ≡ take k ls ++ (l ∷ [])
+take-next [] zero l ms h = let z : _≡_ {A = ℕ} 0 1 = cc in absurd (omega arith)
+take-next (x ∷ ls) zero l ms h = let e : x ≡ l = cc in ap (λ (m : List ℕ). m ∷ []) e
+take-next [] (suc k) l ms h = let z : _≡_ {A = ℕ} 0 1 = cc in absurd (omega arith)
+take-next (x ∷ ls) (suc k) l ms h = ap (λ (t : List (List ℕ)). x ∷ t) (take-next ls k l ms h)
+
+more-left : (ls : List (List ℕ)) (k : ℕ) (l : List ℕ) (ms : List (List ℕ)) → drop k ls ≡ l ∷ ms → k < length ls
+more-left ls k l ms h = omega (arith, length-drop k ls, ap length h)
+
+none-left : (ls : List (List ℕ)) (k : ℕ) → drop k ls ≡ [] → length ls ≤ k
+none-left ls k h = omega (arith, length-drop k ls, ap length h)
+
+module _ {S : Type 0} (after : S → List ℕ → S) (reply : S → List ℕ → List ℕ) (s₀ : S) (input d : List ℕ) where
+  -- k lines are answered: the state, the bytes read, the bytes written, and the buffer
+  pub record Going (s : S) (used at k : ℕ) (out : List ℕ) : Type 0 where
+    pub most : k ≤ length (whole input)
+    pub state : s ≡ statesAfter after s₀ (take k (whole input))
+    pub read : used ≡ length (joined (take k (whole input)))
+    pub written : at ≡ length (answers after reply s₀ (take k (whole input)))
+    pub buffer : out ≡ answers after reply s₀ (take k (whole input)) ++ drop at d
+    pub long : length out ≡ length d
+
+  pub going-first : Going s₀ 0 0 0 d
+  unfolding statesAfter joined answers
+  going-first = record { most = omega arith; state = refl; read = refl; written = refl; buffer = refl; long = refl }
+
+  -- what is left to read has the lines that are left
+  going-left : (s : S) (used at k : ℕ) (out : List ℕ) → Going s used at k out → whole (drop used input) ≡ drop k (whole input)
+  going-left s used at k out g = ap (λ (n : ℕ). whole (drop n input)) (g .read) ∙ whole-off k input
+
+  -- no newline is left: all whole lines are answered
+  pub going-last : (s : S) (used at k e : ℕ) (out : List ℕ) → Going s used at k out → e ≡ used + lineEnd (drop used input) → length input ≤ e
+      → k ≡ length (whole input)
+  going-last s used at k e out g found h =
+      let m : k ≤ length (whole input) = g .most in
+      let n : length (whole input) ≤ k =
+      none-left (whole input) k (sym (going-left s used at k out g) ∙ line-none input used e found h) in
+      omega arith
+
+  -- a newline at e: the line from `used` to e is answered
+  pub going-next : (s : S) (used at k e : ℕ) (out : List ℕ) (s′ : S) (next : List ℕ) → Going s used at k out
+      → e ≡ used + lineEnd (drop used input) → e < length input
+      → s′ ≡ after s (take (e - used) (drop used input))
+      → next ≡ put out at (reply s (take (e - used) (drop used input)) ++ (newline ∷ []))
+      → length next ≡ length out
+      → Going s′ (e + 1) (at + (length (reply s (take (e - used) (drop used input))) + 1)) (k + 1) next
+  unfolding answers statesAfter joined
+  going-next s used at k e out s′ next g found h is-after is-next same =
+      let l : List ℕ = take (e - used) (drop used input) in
+      let done : List (List ℕ) = take k (whole input) in
+      let left : drop k (whole input) ≡ l ∷ whole (drop (e + 1) input) =
+      sym (going-left s used at k out g) ∙ line-at input used e found h in
+      let one : take (k + 1) (whole input) ≡ done ++ (l ∷ []) =
+      ap (λ (n : ℕ). take n (whole input)) (add-one k) ∙ take-next (whole input) k l (whole (drop (e + 1) input)) left in
+      let wide : length l ≡ e - used = length-take-le (e - used) (drop used input) (omega (arith, length-drop used input)) in
+      let r : used ≡ length (joined done) = g .read in
+      let w : at ≡ length (answers after reply s₀ done) = g .written in
+      let answer : List ℕ = reply s l ++ (newline ∷ []) in
+      let all : answers after reply s₀ (take (k + 1) (whole input)) ≡ answers after reply s₀ done ++ answer =
+      ap (answers after reply s₀) one
+      ∙ answers-append after reply s₀ done (l ∷ [])
+      ∙ ap (λ (t : S). answers after reply s₀ done ++ (reply t l ++ (newline ∷ []))) (sym (g .state)) in
+      record {
+        most = omega (arith, more-left (whole input) k l (whole (drop (e + 1) input)) left);
+        state =
+            is-after
+            ∙ ap (λ (t : S). after t l) (g .state)
+            ∙ sym (ap (statesAfter after s₀) one ∙ states-append after s₀ done (l ∷ []));
+        read =
+            sym (ap (λ (ls : List (List ℕ)). length (joined ls)) one
+            ∙ ap length (joined-append done (l ∷ []))
+            ∙ length-append (joined done) (l ++ (newline ∷ []))
+            ∙ omega (arith, length-append l (newline ∷ [])));
+        written =
+            sym (ap length all
+            ∙ length-append (answers after reply s₀ done) answer
+            ∙ omega (arith, length-append (reply s l) (newline ∷ [])));
+        buffer =
+            is-next
+            ∙ ap (λ (t : List ℕ). put t at answer) (g .buffer)
+            ∙ put-seam (answers after reply s₀ done) d at answer (sym w)
+            ∙ ap (λ (t : List ℕ). t ++ drop (at + length answer) d) (sym all)
+            ∙ ap (λ (n : ℕ). answers after reply s₀ (take (k + 1) (whole input)) ++ drop (at + n) d) (length-append (reply s l) (newline ∷ []));
+        long = same ∙ g .long;
+      }
