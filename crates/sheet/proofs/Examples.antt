@@ -1,14 +1,13 @@
 -- Fields and lines computed, and a step for lines that numbers them: no proof cites this file. Assumes nothing.
-use Prim.Native.Nat.{ℕ, _+_}
+use Prim.Native.Nat.{ℕ, _+_, _*_}
 use mathlib.Core.Path.{_≡_, refl, sym, ap}
 use mathlib.Core.List.{List, [], _∷_, _++_}
 use lib.ListN.{take}
 use lib.Seq.{take-take}
 use lib.Dec.{lit≤}
-use Rattle.sheet.specs.declared.field.FieldRead.{FieldRead}
 use Rattle.sheet.specs.declared.field.FieldRead.the-variants.{Number, Bad}
-use Rattle.sheet.specs.Field.{inRange, digits, start, spaced, readField, column, columns, fieldOf, spaces}
-use Rattle.sheet.specs.Line.{read, broken, onto, before, fields, lengthOk, readWithin, readLine, lineOf}
+use Rattle.sheet.specs.Field.{fieldWidth, inRange, digits, start, spaced, readField, column, columns, fieldOf, spaces}
+use Rattle.sheet.specs.Line.{lineFields, answerWidth, read, broken, onto, before, fields, lengthOk, readWithin, readLine, lineOf}
 use Rattle.sheet.specs.Lines.{ahead, whole, joined, rest, lastLine, linesOf, together, answers, statesAfter, stream}
 use Rattle.sheet.proofs.LinesCut.{stream-all}
 
@@ -37,6 +36,13 @@ two-bytes = refl
 command : readLine (lineOf (4 ∷ 0 ∷ 1 ∷ 1 ∷ [])) ≡ read (4 ∷ 0 ∷ 1 ∷ 1 ∷ [])
 unfolding readWithin lengthOk fields before onto readField spaced start digits inRange lineOf fieldOf columns column
 command = refl
+
+-- "over 1,430", "110 bytes"
+line-bytes : fieldWidth * lineFields ≡ 1430
+line-bytes = refl
+
+answer-bytes : answerWidth ≡ 110
+answer-bytes = refl
 
 -- ---- a step that answers the number of the line, and its first two bytes
 

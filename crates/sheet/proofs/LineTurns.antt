@@ -1,10 +1,10 @@
 -- The turns of the line reader's loop. Assumes nothing.
-use Prim.Native.Nat.{ℕ, zero, suc, _+_, _-_, _*_, _≤_, _<_}
+use Prim.Native.Nat.{ℕ, suc, _+_, _-_, _*_, _≤_, _<_}
 use native.Mathlib.Numerals.{add-one}
 use native.Mathlib.Omega.{arith}
 use mathlib.Core.Path.{_≡_, refl, sym, ap, _∙_}
 use mathlib.Core.List.{List, [], _∷_, _++_, append-nil}
-use lib.ListN.{length, set, take, drop, length-set}
+use lib.ListN.{length, set, take, drop}
 use lib.Seq.{slice, drop-at, drop-drop, take-add, take-suc-set, length-take-le}
 use Rattle.sheet.specs.declared.field.FieldRead.{FieldRead}
 use Rattle.sheet.specs.declared.field.FieldRead.the-variants.{Number, Bad}

@@ -5,7 +5,7 @@ use native.Mathlib.Omega.{arith}
 use native.Mathlib.Decide.{ℕ-discrete}
 use mathlib.Core.Path.{_≡_, refl, sym, ap, _∙_}
 use mathlib.Core.Logic.{_⊎_, ⊎-elim}
-use mathlib.Core.List.{List, [], _∷_, _++_, append-nil, append-assoc, append-cancel-left, List·Memᴰ, List·Memᴰ·not-nil, List·Memᴰ·cases-cons, List·Memᴰ·append-cases}
+use mathlib.Core.List.{List, [], _∷_, _++_, append-nil, append-assoc, append-cancel-left, List·Memᴰ, List·Memᴰ·not-nil, List·Memᴰ·cases-cons}
 use lib.ListN.{length, getD, take, drop, length-append, take-append-drop, length-drop, drop-of-length-le}
 use lib.Seq.{drop-append-add, drop-append-seam, drop-cons, drop-drop, take-all}
 use borrow.Author.Tests.{eq-eqb, ne-eqb}

@@ -1,14 +1,14 @@
 -- An input that is read in parts, cut anywhere, has the answers of the whole. Assumes nothing.
-use Prim.Native.Nat.{ℕ, zero, suc, _+_, _*_, _≤_, _<_}
+use Prim.Native.Nat.{ℕ, zero, suc, _+_, _*_, _<_}
 use native.Mathlib.Nat.{mul-suc}
 use native.Mathlib.Omega.{arith}
 use native.Mathlib.Decide.{decLe}
 use mathlib.Core.Path.{_≡_, refl, sym, ap, _∙_}
 use mathlib.Core.List.{List, [], _∷_, _++_, map, append-nil, append-assoc}
-use lib.ListN.{length, take, drop, length-append}
+use lib.ListN.{length, take, length-append}
 use lib.Seq.{take-all, take-nil}
 use Rattle.sheet.specs.Lines.{newline, whole, joined, rest, lastLine, linesOf, together, answers, statesAfter, stream}
-use Rattle.sheet.proofs.LinesAgain.{AllBare, bare-append, bare-take, whole-bare, whole-line, joined-rest, rest-bare, rest-all, lines-joined, lines-split}
+use Rattle.sheet.proofs.LinesAgain.{AllBare, bare-append, bare-take, whole-bare, joined-rest, rest-bare, rest-all, lines-joined, lines-split}
 
 -- ---- lines cut to their first n bytes
 

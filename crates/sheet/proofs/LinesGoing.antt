@@ -3,12 +3,12 @@ use Prim.Native.Nat.{ℕ, zero, suc, _+_, _-_, _≤_, _<_}
 use native.Mathlib.Numerals.{add-one}
 use native.Mathlib.Omega.{arith}
 use mathlib.Core.Path.{_≡_, refl, sym, ap, _∙_}
-use mathlib.Core.List.{List, [], _∷_, _++_, append-nil, append-assoc}
+use mathlib.Core.List.{List, [], _∷_, _++_, append-nil}
 use lib.ListN.{length, take, drop, length-append, length-drop, drop-of-length-le}
 use lib.Seq.{length-take-le, take-all, drop-drop}
 use Rattle.sheet.specs.Field.{put}
 use Rattle.sheet.specs.Lines.{newline, whole, joined, lineEnd, answers, statesAfter}
-use Rattle.sheet.proofs.LinesAgain.{joined-append, whole-off, used-most, line-at, line-none}
+use Rattle.sheet.proofs.LinesAgain.{joined-append, whole-off, line-at, line-none}
 use Rattle.sheet.proofs.LinesCut.{answers-append, states-append}
 use Rattle.sheet.proofs.Writing.{put-seam}
 

@@ -1,16 +1,15 @@
 -- The turns of the field reader's loops, and a field from what its spaces end at. Assumes nothing.
-use Prim.Native.Nat.{ℕ, zero, suc, _+_, _-_, _*_, _^_, _≤_, _<_}
-use native.Mathlib.Nat.{pow-suc, pow-le-pow-right, sub-self}
+use Prim.Native.Nat.{ℕ, suc, _+_, _-_, _*_, _^_, _≤_, _<_}
+use native.Mathlib.Nat.{pow-suc, pow-le-pow-right}
 use native.Mathlib.Numerals.{add-one}
 use native.Mathlib.Omega.{arith}
 use mathlib.Core.Path.{_≡_, refl, sym, ap, _∙_}
-use mathlib.Core.List.{List, [], _∷_, _++_}
+use mathlib.Core.List.{List, [], _∷_}
 use lib.ListN.{length, getD}
 use lib.Seq.{slice, slice-cons, slice-empty, length-slice}
-use borrow.Author.Tests.{le-leb, lt-leb, eq-eqb, ne-eqb}
-use Rattle.sheet.specs.declared.field.FieldRead.{FieldRead}
+use borrow.Author.Tests.{le-leb, lt-leb, eq-eqb}
 use Rattle.sheet.specs.declared.field.FieldRead.the-variants.{Number, Bad}
-use Rattle.sheet.specs.Field.{fieldWidth, inRange, digits, start, spaced, readField, SkipsTo}
+use Rattle.sheet.specs.Field.{fieldWidth, space, inRange, digits, start, spaced, readField, SkipsTo}
 use Rattle.sheet.proofs.RoundTrip.{digits-more, start-digit, spaced-digit}
 
 -- a part begins with the element at its first place
@@ -19,9 +18,9 @@ slice-one l i end h k = slice-cons i end l 0 h k ∙ ap (λ (m : ℕ). getD l i 
 
 -- ---- spaces
 
-pub at-space : (l : List ℕ) (i end : ℕ) → i < end → end ≤ length l → getD l i 0 ≡ 32 → spaced (slice i end l) ≡ spaced (slice (i + 1) end l)
+pub at-space : (l : List ℕ) (i end : ℕ) → i < end → end ≤ length l → getD l i 0 ≡ space → spaced (slice i end l) ≡ spaced (slice (i + 1) end l)
 unfolding spaced
-at-space l i end h k e = ap spaced (slice-one l i end h k) ∙ simp (eq-eqb (getD l i 0) 32 e)
+at-space l i end h k e = ap spaced (slice-one l i end h k) ∙ simp (eq-eqb (getD l i 0) space e)
 
 -- ---- digits
 

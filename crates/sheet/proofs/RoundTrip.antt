@@ -1,19 +1,16 @@
 -- A field that is written is read as its number, and a field that is read is the one that is written. Assumes nothing.
 use Prim.Native.Nat.{ℕ, zero, suc, _+_, _-_, _*_, _/_, _%_, _^_, _≤_, _<_}
-use native.Mathlib.Nat.{pow-suc, add-zero, add-suc, suc-add}
+use native.Mathlib.Nat.{pow-suc, add-zero}
 use native.Mathlib.Numerals.{add-one}
 use native.Mathlib.Omega.{arith}
 use native.Mathlib.Decide.{ℕ-discrete, decLe, decLt}
 use mathlib.Core.Path.{_≡_, refl, sym, ap, _∙_}
-use mathlib.Core.Bool.{Bool, true, false, cond}
-use mathlib.Core.Logic.{_⊎_, inl, inr, ⊎-elim}
 use mathlib.Core.List.{List, [], _∷_, _++_, append-nil, append-assoc}
-use lib.Dec.{eqb, leb, ltb}
 use lib.ListN.{length, length-append, replicate-append-replicate}
-use borrow.Author.Tests.{eqb-true, eqb-false, leb-true, leb-false, ltb-true, ltb-false, lt-ltb, le-ltb, le-leb, lt-leb, eq-eqb, ne-eqb}
+use borrow.Author.Tests.{lt-ltb, le-ltb, le-leb, lt-leb, eq-eqb, ne-eqb}
 use Rattle.sheet.specs.declared.field.FieldRead.{FieldRead}
 use Rattle.sheet.specs.declared.field.FieldRead.the-variants.{Number, Bad}
-use Rattle.sheet.specs.Field.{fieldWidth, numberLimit, inRange, digits, start, spaced, readField, column, columns, fieldOf, spaces}
+use Rattle.sheet.specs.Field.{fieldWidth, numberLimit, space, inRange, digits, start, spaced, readField, column, columns, fieldOf, spaces}
 
 -- one decimal digit more
 pub digits-more : (v b : ℕ) (s : List ℕ) → 48 ≤ b → b ≤ 57 → digits v (b ∷ s) ≡ digits (v * 10 + (b - 48)) s
@@ -25,11 +22,15 @@ in-range : (v : ℕ) → v < numberLimit → inRange v ≡ Number v
 unfolding inRange
 in-range v h = simp (lt-ltb v numberLimit h)
 
+-- one space more
+pub spaces-one : (k : ℕ) → spaces (suc k) ≡ spaces k ++ spaces 1
+spaces-one k = ap spaces (sym (add-one k)) ∙ sym (replicate-append-replicate k 1 _)
+
 -- where nothing is left there are spaces
 pub columns-none : (k : ℕ) → columns k 0 ≡ spaces k
 unfolding columns column
 columns-none zero = refl
-columns-none (suc k) = ap (λ (l : List ℕ). l ++ (32 ∷ [])) (columns-none k) ∙ replicate-append-replicate k 1 32 ∙ ap (λ (m : ℕ). spaces m) (add-one k)
+columns-none (suc k) = ap (λ (l : List ℕ). l ++ spaces 1) (columns-none k) ∙ sym (spaces-one k)
 
 pub length-columns : (k n : ℕ) → length (columns k n) ≡ k
 unfolding columns
@@ -56,9 +57,9 @@ unfolding start
 start-digit b [] h = refl
 start-digit b (a ∷ s) h = simp (ne-eqb b 48 h)
 
-pub spaced-digit : (b : ℕ) (s : List ℕ) → (b ≡ 32 → ⊥) → spaced (b ∷ s) ≡ start b s
+pub spaced-digit : (b : ℕ) (s : List ℕ) → (b ≡ space → ⊥) → spaced (b ∷ s) ≡ start b s
 unfolding spaced
-spaced-digit b s h = simp (ne-eqb b 32 h)
+spaced-digit b s h = simp (ne-eqb b space h)
 
 -- the last digit of n after the others
 last-digit : (n : ℕ) (s : List ℕ) → digits (n / 10) ((48 + n % 10) ∷ s) ≡ digits n s
@@ -129,7 +130,7 @@ pub read-written : (n : ℕ) → n < 2 ^ 32 → readField (fieldOf n) ≡ Number
 unfolding readField fieldOf digits
 read-written n h =
     simp (eq-eqb (length (fieldOf n)) fieldWidth (length-field n))
-    (columns-last (fieldWidth - 1) n (omega arith) ∙ in-range n h)
+    (columns-last (fieldWidth - 1) n (omega arith) ∙ in-range n (omega arith))
 
 -- ---- the other way
 
@@ -238,15 +239,15 @@ wrote-spaced : (j : ℕ) (s : List ℕ) (n : ℕ) → spaced s ≡ Number n → 
 unfolding spaced wide fieldOf
 wrote-spaced j [] n h w = bad-never n h
 wrote-spaced j (b ∷ s) n h w =
-    elim (ℕ-discrete b 32) [
+    elim (ℕ-discrete b space) [
       | yes e ↦
           ap (λ (c : ℕ). spaces j ++ (c ∷ s)) e
-          ∙ sym (append-assoc (spaces j) (32 ∷ []) s)
-          ∙ ap (λ (l : List ℕ). l ++ s) (replicate-append-replicate j 1 32 ∙ ap (λ (m : ℕ). spaces m) (add-one j))
-          ∙ wrote-spaced (suc j) s n (simp (eq-eqb b 32 e) at h) (omega arith)
+          ∙ sym (append-assoc (spaces j) (spaces 1) s)
+          ∙ ap (λ (l : List ℕ). l ++ s) (sym (spaces-one j))
+          ∙ wrote-spaced (suc j) s n (simp (eq-eqb b space e) at h) (omega arith)
       | no q ↦
           let k : j + length s ≡ fieldWidth - 1 = omega arith in
-          wrote-start j b s n (simp (ne-eqb b 32 q) at h) ∙ ap (λ (m : ℕ). wide m n) k
+          wrote-start j b s n (simp (ne-eqb b space q) at h) ∙ ap (λ (m : ℕ). wide m n) k
     ]
 
 -- a field that is read as a number is the one that the number is written as
@@ -271,9 +272,9 @@ spaced-range : (s : List ℕ) (n : ℕ) → spaced s ≡ Number n → n < number
 unfolding spaced
 spaced-range [] n h = bad-never n h
 spaced-range (b ∷ s) n h =
-    elim (ℕ-discrete b 32) [
-      | yes e ↦ spaced-range s n (simp (eq-eqb b 32 e) at h)
-      | no q ↦ start-range b s n (simp (ne-eqb b 32 q) at h)
+    elim (ℕ-discrete b space) [
+      | yes e ↦ spaced-range s n (simp (eq-eqb b space e) at h)
+      | no q ↦ start-range b s n (simp (ne-eqb b space q) at h)
     ]
 
 -- a number that is read is one of 0..4294967295

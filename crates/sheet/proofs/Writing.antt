@@ -1,16 +1,16 @@
 -- Bytes put into a buffer at a place, and the turns of the writers' loops. Assumes nothing.
-use Prim.Native.Nat.{ℕ, zero, suc, _+_, _-_, _*_, _/_, _%_, _^_, _≤_, _<_}
+use Prim.Native.Nat.{ℕ, suc, _+_, _-_, _*_, _/_, _%_, _^_, _≤_, _<_}
 use native.Mathlib.Nat.{pow-suc, add-zero}
 use native.Mathlib.Numerals.{add-one}
 use native.Mathlib.Omega.{arith}
 use native.Mathlib.Decide.{decLt}
 use mathlib.Core.Path.{_≡_, refl, sym, ap, _∙_}
 use mathlib.Core.List.{List, [], _∷_, _++_, append-nil, append-assoc}
-use lib.ListN.{length, getD, set, take, drop, replicate, length-append, length-take, length-drop, length-set, length-replicate, replicate-append-replicate, take-append-drop}
+use lib.ListN.{length, getD, set, take, drop, length-append, length-drop, length-replicate, replicate-append-replicate, take-append-drop}
 use lib.Seq.{length-take-le, drop-cons, set-at, take-at, drop-at, take-suc, take-length, drop-append-add, drop-drop}
-use Rattle.sheet.specs.Field.{fieldWidth, column, columns, fieldOf, spaces, put}
+use Rattle.sheet.specs.Field.{fieldWidth, space, columns, fieldOf, spaces, put}
 use Rattle.sheet.specs.Line.{lineOf}
-use Rattle.sheet.proofs.RoundTrip.{columns-none, columns-more, length-columns, length-field}
+use Rattle.sheet.proofs.RoundTrip.{spaces-one, columns-none, columns-more, length-columns, length-field}
 
 -- ---- put
 
@@ -69,12 +69,12 @@ put-put d at s t h e =
 pub blank-first : (d : List ℕ) (at : ℕ) → d ≡ put d at (spaces 0)
 blank-first d at = sym (put-none d at)
 
-pub blank-next : (d : List ℕ) (at i : ℕ) → at + i < length d → set (put d at (spaces i)) (at + i) 32 ≡ put d at (spaces (i + 1))
+pub blank-next : (d : List ℕ) (at i : ℕ) → at + i < length d → set (put d at (spaces i)) (at + i) space ≡ put d at (spaces (i + 1))
 blank-next d at i h =
-    let long : length (spaces i) ≡ i = length-replicate i 32 in
-    ap (λ (k : ℕ). set (put d at (spaces i)) (at + k) 32) (sym long)
-    ∙ put-more d at (spaces i) 32 (omega arith)
-    ∙ ap (put d at) (replicate-append-replicate i 1 32)
+    let long : length (spaces i) ≡ i = length-replicate i space in
+    ap (λ (k : ℕ). set (put d at (spaces i)) (at + k) space) (sym long)
+    ∙ put-more d at (spaces i) space (omega arith)
+    ∙ ap (put d at) (replicate-append-replicate i 1 space)
 
 -- ---- a field, from its last column to its first
 
@@ -87,16 +87,13 @@ pub record Partly (d out : List ℕ) (at n i rest : ℕ) : Type 0 where
   pub whole : columns (i - at) rest ++ last ≡ fieldOf n
   pub is : out ≡ put d at (spaces (i - at) ++ last)
 
-spaces-one : (k : ℕ) → spaces (suc k) ≡ spaces k ++ (32 ∷ [])
-spaces-one k = ap spaces (sym (add-one k)) ∙ sym (replicate-append-replicate k 1 32)
-
 -- a store at the last space
 store : (d : List ℕ) (at k : ℕ) (last : List ℕ) (b i : ℕ) → at ≤ length d → i ≡ at + k
     → set (put d at (spaces (suc k) ++ last)) i b ≡ put d at (spaces k ++ (b ∷ last))
 store d at k last b i h e =
     ap (λ (l : List ℕ). set (put d at (l ++ last)) i b) (spaces-one k)
-    ∙ ap (λ (l : List ℕ). set (put d at l) i b) (append-assoc (spaces k) (32 ∷ []) last)
-    ∙ put-inside d at (spaces k) 32 last b i h (e ∙ ap (λ (m : ℕ). at + m) (sym (length-replicate k 32)))
+    ∙ ap (λ (l : List ℕ). set (put d at l) i b) (append-assoc (spaces k) (spaces 1) last)
+    ∙ put-inside d at (spaces k) space last b i h (e ∙ ap (λ (m : ℕ). at + m) (sym (length-replicate k space)))
 
 -- the last digit, stored into spaces
 started : (d b : List ℕ) (at n : ℕ) → at + fieldWidth ≤ length d → b ≡ put d at (spaces fieldWidth)
@@ -170,7 +167,7 @@ length-partly d out at n i rest h p =
     let s : List ℕ = spaces (i - at) ++ p .last in
     let long : length s ≡ fieldWidth =
     length-append (spaces (i - at)) (p .last)
-    ∙ ap (λ (k : ℕ). k + length (p .last)) (length-replicate (i - at) 32 ∙ sym (length-columns (i - at) rest))
+    ∙ ap (λ (k : ℕ). k + length (p .last)) (length-replicate (i - at) space ∙ sym (length-columns (i - at) rest))
     ∙ sym (length-append (columns (i - at) rest) (p .last))
     ∙ ap length (p .whole)
     ∙ length-field n in

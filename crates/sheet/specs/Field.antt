@@ -17,6 +17,9 @@ fieldWidth = 11
 abbrev pub numberLimit : ℕ
 numberLimit = 4294967296
 
+abbrev pub space : ℕ
+space = 32
+
 -- a number that a field may hold, and Bad above
 unfoldable pub inRange : ℕ → FieldRead
 inRange v = cond (ltb v numberLimit) (Number v) Bad
@@ -34,7 +37,7 @@ start b (a ∷ s) = cond (eqb b 48) Bad (digits 0 (b ∷ a ∷ s))
 -- "right-justified in spaces"
 unfoldable pub spaced : List ℕ → FieldRead
 spaced [] = Bad
-spaced (b ∷ s) = cond (eqb b 32) (spaced s) (start b s)
+spaced (b ∷ s) = cond (eqb b space) (spaced s) (start b s)
 
 -- what the bytes of a field say
 unfoldable pub readField : List ℕ → FieldRead
@@ -42,7 +45,7 @@ readField s = cond (eqb (length s) fieldWidth) (spaced s) Bad
 
 -- the last digit of what is left of a number, or a space where nothing is left
 unfoldable pub column : ℕ → ℕ
-column n = cond (eqb n 0) 32 (48 + n % 10)
+column n = cond (eqb n 0) space (48 + n % 10)
 
 -- the last k columns of what is left of a number
 unfoldable pub columns : ℕ → ℕ → List ℕ
@@ -55,7 +58,7 @@ fieldOf n = columns (fieldWidth - 1) (n / 10) ++ ((48 + n % 10) ∷ [])
 
 -- k spaces
 abbrev pub spaces : ℕ → List ℕ
-spaces k = replicate k 32
+spaces k = replicate k space
 
 -- d with the bytes s from place `at` on
 unfoldable pub put : List ℕ → ℕ → List ℕ → List ℕ
@@ -66,4 +69,4 @@ pub record SkipsTo (l : List ℕ) (at end i : ℕ) : Type 0 where
   pub from : at ≤ i
   pub to : i ≤ end
   pub same : spaced (slice at end l) ≡ spaced (slice i end l)
-  pub stop : i < end → getD l i 0 ≡ 32 → ⊥
+  pub stop : i < end → getD l i 0 ≡ space → ⊥

@@ -4,8 +4,8 @@ use native.Mathlib.Omega.{arith}
 use mathlib.Core.Path.{_≡_, ap, _∙_}
 use mathlib.Core.List.{List}
 use lib.ListN.{length, set, length-set}
-use Rattle.sheet.specs.Field.{fieldWidth, spaces, put}
-use Rattle.sheet.proofs.Writing.{blank-first, blank-next, length-put}
+use Rattle.sheet.specs.Field.{fieldWidth, space, spaces, put}
+use Rattle.sheet.proofs.Writing.{blank-first, blank-next}
 use Rattle.sheet.proofs.field.blank.Statement.{statement}
 use Rattle.sheet.proofs.field.blank.Tie as tie
 
@@ -37,8 +37,8 @@ loop-again c =
     let i = c .before .loop .i in (
       omega arith,
       (
-        ap (λ (l : List ℕ). set l (a .at + i) 32) (inv .1 .0) ∙ blank-next (a .out .now) (a .at) i (omega arith),
-        length-set (c .before .loop .out) (a .at + i) 32 ∙ inv .1 .1,
+        ap (λ (l : List ℕ). set l (a .at + i) space) (inv .1 .0) ∙ blank-next (a .out .now) (a .at) i (omega arith),
+        length-set (c .before .loop .out) (a .at + i) space ∙ inv .1 .1,
       ),
     )
 

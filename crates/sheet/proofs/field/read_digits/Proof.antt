@@ -1,9 +1,9 @@
 -- `read_digits` is `digits` from 0 on: a turn of the loop is one digit.
-use Prim.Native.Nat.{_+_, _-_, _≤_, _<_}
+use Prim.Native.Nat.{_-_}
 use native.Mathlib.Omega.{arith}
-use mathlib.Core.Path.{_≡_, sym, _∙_}
+use mathlib.Core.Path.{sym, _∙_}
 use borrow.Author.Tests.{lt-ltb, le-ltb}
-use Rattle.sheet.specs.Field.{numberLimit, inRange}
+use Rattle.sheet.specs.Field.{inRange}
 use Rattle.sheet.proofs.Reading.{DigitsTo, digits-first, digits-next, digits-fit, digits-last, at-low, at-high}
 use Rattle.sheet.proofs.field.read_digits.Statement.{statement}
 use Rattle.sheet.proofs.field.read_digits.Tie as tie

@@ -1,9 +1,6 @@
 -- `read_field` is `readField` of the field: what its spaces end at decides.
-use Prim.Native.Nat.{_+_}
-use native.Mathlib.Omega.{arith}
 use mathlib.Core.Path.{sym, _∙_}
 use borrow.Author.Needs.{needs}
-use Rattle.sheet.specs.Field.{fieldWidth}
 use Rattle.sheet.proofs.Reading.{field-none, field-leading, field-zero, field-digits}
 use Rattle.sheet.proofs.field.read_field.Statement.{statement}
 use Rattle.sheet.proofs.field.read_field.Tie as tie

@@ -8,7 +8,6 @@ use borrow.Author.Tests.{ne-eqb}
 use Rattle.sheet.specs.Field.{fieldWidth, readField}
 use Rattle.sheet.proofs.field.read_field_of.Statement.{statement}
 use Rattle.sheet.proofs.field.read_field_of.Tie as tie
-use Rattle.sheet.proofs.field.read_field.Reads as read-field-reads
 
 returns : tie.Need-returns
 unfolding readField

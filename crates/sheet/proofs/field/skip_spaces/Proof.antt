@@ -1,5 +1,5 @@
 -- `skip_spaces` ends where `SkipsTo` says: every place passed has a space.
-use Prim.Native.Nat.{_+_, _-_, _≤_}
+use Prim.Native.Nat.{_-_, _≤_}
 use native.Mathlib.Omega.{arith}
 use mathlib.Core.Path.{_≡_, refl, _∙_}
 use lib.Seq.{slice}

@@ -1,14 +1,12 @@
 -- `write_field` writes the digits from the last to the first into spaces.
 use Prim.Native.Nat.{_+_, _-_, _%_, _≤_}
 use native.Mathlib.Omega.{arith}
-use mathlib.Core.Path.{_≡_, ap, _∙_}
+use mathlib.Core.Path.{_≡_, _∙_}
 use lib.ListN.{length, set, length-set}
-use borrow.Author.Needs.{needs}
-use Rattle.sheet.specs.Field.{fieldWidth, spaces, put}
+use Rattle.sheet.specs.Field.{fieldWidth}
 use Rattle.sheet.proofs.Writing.{Partly, partly-first, partly-more, partly-next, partly-last, length-partly}
 use Rattle.sheet.proofs.field.write_field.Statement.{statement}
 use Rattle.sheet.proofs.field.write_field.Tie as tie
-use Rattle.sheet.proofs.field.blank.Reads as blank-reads
 
 abbrev Inv-loop : tie.InvT-loop
 Inv-loop out₀ at n i₀ rest₀ out i rest = Partly out₀ out at n i rest
@@ -16,8 +14,10 @@ Inv-loop out₀ at n i₀ rest₀ out i rest = Partly out₀ out at n i rest
 abbrev μ-loop : tie.MeasureT-loop
 μ-loop out₀ at n i₀ rest₀ out i rest = rest
 
--- the buffer at the loop's head is as long as the one that came in, and has the field
-fits : (c : tie.At-loop Inv-loop μ-loop) → c .before .before .before .before .before .before .args .at + fieldWidth ≤ length (set (c .before .before .before .blank .last .0) (c .before .before .before .before .before .before .args .at + (fieldWidth - 1)) (48 + c .before .before .before .before .before .before .args .n % 10))
+-- the buffer at the loop's head has the field
+fits : (c : tie.At-loop Inv-loop μ-loop)
+    → let a = c .before .before .before .before .before .before .args in
+    a .at + fieldWidth ≤ length (set (c .before .before .before .blank .last .0) (a .at + (fieldWidth - 1)) (48 + a .n % 10))
 fits c = simp length-set (omega (arith, c .before .before .before .blank .kept .0))
 
 -- a turn keeps the buffer's length

@@ -2,11 +2,9 @@
 use Prim.Native.Nat.{_-_}
 use native.Mathlib.Omega.{arith}
 use lib.ListN.{length}
-use borrow.Author.Needs.{needs}
 use Rattle.sheet.proofs.Writing.{Wrote, wrote-first, wrote-next, wrote-last}
 use Rattle.sheet.proofs.field.write_numbers.Statement.{statement}
 use Rattle.sheet.proofs.field.write_numbers.Tie as tie
-use Rattle.sheet.proofs.field.write_field.Reads as write-field-reads
 
 abbrev Inv-loop : tie.InvT-loop
 Inv-loop out₀ numbers at₀ k₀ out at k = Wrote out₀ numbers out at k

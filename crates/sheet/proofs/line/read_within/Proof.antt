@@ -1,5 +1,5 @@
 -- `read_within` is `readWithin`: the length is tried first, and then a turn reads a field.
-use Prim.Native.Nat.{_+_, _-_, _*_, _/_, _≤_}
+use Prim.Native.Nat.{_-_, _/_, _≤_}
 use native.Mathlib.Omega.{arith}
 use mathlib.Core.Path.{_≡_, refl, sym, _∙_}
 use lib.ListN.{length, length-set}
@@ -11,7 +11,6 @@ use Rattle.sheet.proofs.LineAgain.{within-ok, within-none, within-uneve
 use Rattle.sheet.proofs.LineTurns.{ReadTo, read-first, read-next, read-bad, read-last}
 use Rattle.sheet.proofs.line.read_within.Statement.{statement}
 use Rattle.sheet.proofs.line.read_within.Tie as tie
-use Rattle.sheet.proofs.field.read_field.Reads as read-field-reads
 
 abbrev Inv-loop : tie.InvT-loop
 Inv-loop line limit numbers₀ n count at₀ k₀ numbers at k = ReadTo line count numbers at k × (length numbers ≡ length numbers₀)
