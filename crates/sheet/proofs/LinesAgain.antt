@@ -204,6 +204,15 @@ pub lines-bare : (s l : List ℕ) → List·Memᴰ l (linesOf s) → List·Mem�
 unfolding linesOf
 lines-bare s l = all-none (linesOf s) l (bare-both (whole s) (lastLine (rest s)) (whole-bare s) (last-bare (rest s) (rest-bare s)))
 
+joined-most : (ls : List (List ℕ)) → length ls ≤ length (joined ls)
+unfolding joined
+joined-most [] = omega arith
+joined-most (l ∷ ls) = omega (arith, length-append l (newline ∷ joined ls), joined-most ls)
+
+-- there are no more whole lines than bytes
+pub whole-most : (s : List ℕ) → length (whole s) ≤ length s
+whole-most s = omega (arith, joined-most (whole s), simp length-append at (ap length (joined-rest s)))
+
 -- ---- the first n whole lines taken off the front
 
 drop-bare : (n : ℕ) (ls : List (List ℕ)) → AllBare ls → AllBare (drop n ls)

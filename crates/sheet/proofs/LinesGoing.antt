@@ -4,13 +4,13 @@ use native.Mathlib.Numerals.{add-one}
 use native.Mathlib.Omega.{arith}
 use mathlib.Core.Path.{_≡_, refl, sym, ap, _∙_}
 use mathlib.Core.List.{List, [], _∷_, _++_, append-nil}
-use lib.ListN.{length, take, drop, length-append, length-drop, drop-of-length-le}
+use lib.ListN.{length, set, take, drop, length-append, length-drop, drop-of-length-le}
 use lib.Seq.{length-take-le, take-all, drop-drop}
 use Rattle.sheet.specs.Field.{put}
 use Rattle.sheet.specs.Lines.{newline, whole, joined, lineEnd, answers, statesAfter}
 use Rattle.sheet.proofs.LinesAgain.{joined-append, whole-off, line-at, line-none}
 use Rattle.sheet.proofs.LinesCut.{answers-append, states-append}
-use Rattle.sheet.proofs.Writing.{put-seam}
+use Rattle.sheet.proofs.Writing.{put-more, put-seam}
 
 -- ---- a part of a buffer that is lent from a place to the end
 
@@ -27,6 +27,15 @@ placed-buffer d at last s e =
     let none : drop (length d - at) (drop at d) ≡ [] = drop-of-length-le (drop at d) all in
     ap (λ (t : List ℕ). take at d ++ (last ++ t)) none
     ∙ ap (λ (t : List ℕ). take at d ++ t) (append-nil last ∙ e ∙ ap (λ (t : List ℕ). s ++ t) (drop-drop (length s) at d))
+
+-- bytes at the front of the part, and a byte behind them
+pub placed-line : (d : List ℕ) (at i : ℕ) (last s : List ℕ) (b : ℕ) → i ≡ at + length s → i < length d
+    → last ≡ s ++ drop (length s) (take (length d - at) (drop at d))
+    → set (take at d ++ (last ++ drop (length d - at) (drop at d))) i b ≡ put d at (s ++ (b ∷ []))
+placed-line d at i last s b e h is =
+    ap (λ (k : ℕ). set (take at d ++ (last ++ drop (length d - at) (drop at d))) k b) e
+    ∙ ap (λ (t : List ℕ). set t (at + length s) b) (placed-buffer d at last s (is ∙ ap (λ (t : List ℕ). s ++ drop (length s) t) (to-end d at)))
+    ∙ put-more d at s b (omega arith)
 
 -- ---- one line more
 
@@ -69,15 +78,23 @@ module _ {S : Type 0} (after : S → List ℕ → S) (reply : S → List ℕ →
       none-left (whole input) k (sym (going-left s used at k out g) ∙ line-none input used e found h) in
       omega arith
 
+  -- a newline is left: a line is
+  pub going-more : (s : S) (used at k e : ℕ) (out : List ℕ) → Going s used at k out → e ≡ used + lineEnd (drop used input) → e < length input
+      → k < length (whole input)
+  going-more s used at k e out g found h =
+      more-left (whole input) k (take (e - used) (drop used input)) (whole (drop (e + 1) input))
+      (sym (going-left s used at k out g) ∙ line-at input used e found h)
+
   -- a newline at e: the line from `used` to e is answered
-  pub going-next : (s : S) (used at k e : ℕ) (out : List ℕ) (s′ : S) (next : List ℕ) → Going s used at k out
+  pub going-next : (s : S) (used at k e : ℕ) (out : List ℕ) (s′ : S) (at′ : ℕ) (next : List ℕ) → Going s used at k out
       → e ≡ used + lineEnd (drop used input) → e < length input
       → s′ ≡ after s (take (e - used) (drop used input))
       → next ≡ put out at (reply s (take (e - used) (drop used input)) ++ (newline ∷ []))
       → length next ≡ length out
-      → Going s′ (e + 1) (at + (length (reply s (take (e - used) (drop used input))) + 1)) (k + 1) next
+      → at′ ≡ at + (length (reply s (take (e - used) (drop used input))) + 1)
+      → Going s′ (e + 1) at′ (k + 1) next
   unfolding answers statesAfter joined
-  going-next s used at k e out s′ next g found h is-after is-next same =
+  going-next s used at k e out s′ at′ next g found h is-after is-next same more =
       let l : List ℕ = take (e - used) (drop used input) in
       let done : List (List ℕ) = take k (whole input) in
       let left : drop k (whole input) ≡ l ∷ whole (drop (e + 1) input) =
@@ -112,6 +129,7 @@ module _ {S : Type 0} (after : S → List ℕ → S) (reply : S → List ℕ →
             ∙ ap (λ (t : List ℕ). put t at answer) (g .buffer)
             ∙ put-seam (answers after reply s₀ done) d at answer (sym w)
             ∙ ap (λ (t : List ℕ). t ++ drop (at + length answer) d) (sym all)
-            ∙ ap (λ (n : ℕ). answers after reply s₀ (take (k + 1) (whole input)) ++ drop (at + n) d) (length-append (reply s l) (newline ∷ []));
+            ∙ ap (λ (n : ℕ). answers after reply s₀ (take (k + 1) (whole input)) ++ drop (at + n) d) (length-append (reply s l) (newline ∷ []))
+            ∙ ap (λ (n : ℕ). answers after reply s₀ (take (k + 1) (whole input)) ++ drop n d) (sym more);
         long = same ∙ g .long;
       }
