@@ -1,5 +1,6 @@
 -- Many lines: how bytes part into lines, and what a step for one line makes of them, whole or read in parts.
 use Prim.Native.Nat.{ℕ, zero, suc, _+_}
+use mathlib.Core.Path.{_≡_}
 use mathlib.Core.Bool.{cond}
 use mathlib.Core.List.{List, [], _∷_, _++_}
 use lib.Dec.{eqb}
@@ -40,6 +41,14 @@ linesOf s = whole s ++ lastLine (rest s)
 unfoldable pub lineEnd : List ℕ → ℕ
 lineEnd [] = zero
 lineEnd (b ∷ s) = cond (eqb b newline) zero (suc (lineEnd s))
+
+-- no newline stands from place `from` to place `to`
+abbrev pub Clear : List ℕ → ℕ → ℕ → Type 0
+Clear l from to = from + lineEnd (drop from l) ≡ to + lineEnd (drop to l)
+
+-- the bytes that `find_newline` tries at once
+abbrev pub blockWidth : ℕ
+blockWidth = 16
 
 -- parts of an input, one after the other
 unfoldable pub together : List (List ℕ) → List ℕ

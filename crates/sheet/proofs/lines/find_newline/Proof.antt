@@ -1,45 +1,52 @@
--- `find_newline` is `lineEnd` from a place on.
-use Prim.Native.Nat.{_+_, _-_}
+-- `find_newline` passes the blocks that are clear.
+use Prim.Native.Nat.{_-_, _≤_}
 use native.Mathlib.Omega.{arith}
-use mathlib.Core.Path.{_≡_, refl, sym, _∙_}
-use lib.ListN.{length, drop}
-use Rattle.sheet.specs.Lines.{lineEnd}
-use Rattle.sheet.proofs.LinesAgain.{end-found, end-next, end-past}
+use mathlib.Core.Path.{refl, sym, _∙_}
+use lib.ListN.{length}
+use borrow.Author.Needs.{needs}
+use Rattle.sheet.specs.Lines.{Clear}
+use Rattle.sheet.proofs.LinesAgain.{end-past}
 use Rattle.sheet.proofs.lines.find_newline.Statement.{statement}
 use Rattle.sheet.proofs.lines.find_newline.Tie as tie
 
 abbrev Inv-loop : tie.InvT-loop
-Inv-loop input from i₀ i = i + lineEnd (drop i input) ≡ from + lineEnd (drop from input)
+Inv-loop input from i₀ i = (i ≤ length input) × Clear input from i
 
 abbrev μ-loop : tie.MeasureT-loop
 μ-loop input from i₀ i = length input - i
 
-loop-holds : tie.Need-loop-holds Inv-loop μ-loop
-loop-holds c = refl
-
-shared-slice-read-if1 : tie.Need-shared-slice-read-if1 Inv-loop μ-loop
-shared-slice-read-if1 c = omega arith
-
 returns : tie.Need-returns Inv-loop μ-loop
-returns c =
-    let l = c .before .before .before .loop in
-    end-found (c .before .before .before .before .args .input .now) (l .i) (omega arith) (c .if1 .taken) ∙ l .inv
+returns c = end-past _ _ (omega arith)
 
-add-i : tie.Need-add-i Inv-loop μ-loop
-add-i c = omega arith
+loop-holds : tie.Need-loop-holds Inv-loop μ-loop
+loop-holds c = (c .if1 .left, refl)
 
-loop-less : tie.Need-loop-less Inv-loop μ-loop
-loop-less c = omega arith
+sub-loop : tie.Need-sub-loop Inv-loop μ-loop
+sub-loop c = search needs
 
-loop-again : tie.Need-loop-again Inv-loop μ-loop
-loop-again c =
-    let l = c .before .before .before .loop in
-    sym (end-next (c .before .before .before .before .args .input .now) (l .i) (omega arith) (c .if1 .left)) ∙ l .inv
+has-newline-requires : tie.Need-has-newline-requires Inv-loop μ-loop
+has-newline-requires c κs = search needs
+
+next-newline-requires : tie.Need-next-newline-requires Inv-loop μ-loop
+next-newline-requires c κs = search needs
 
 returns-2 : tie.Need-returns-2 Inv-loop μ-loop
-returns-2 c =
-    let l = c .before .loop in
-    end-past (c .before .before .args .input .now) (l .i) (c .loop-test .left) ∙ l .inv
+returns-2 c = c .next-newline .ensures ∙ sym (c .before .before .before .before .loop .inv .1)
+
+add-i : tie.Need-add-i Inv-loop μ-loop
+add-i c = search needs
+
+loop-less : tie.Need-loop-less Inv-loop μ-loop
+loop-less c = search needs
+
+loop-again : tie.Need-loop-again Inv-loop μ-loop
+loop-again c = (omega arith, c .before .before .before .loop .inv .1 ∙ c .before .has-newline .ensures (c .if2 .left))
+
+next-newline-requires-2 : tie.Need-next-newline-requires-2 Inv-loop μ-loop
+next-newline-requires-2 c κs = search needs
+
+returns-3 : tie.Need-returns-3 Inv-loop μ-loop
+returns-3 c = c .next-newline2 .ensures ∙ sym (c .before .before .loop .inv .1)
 
 pub find-newline-spec : {M : Type 1} → statement M
 find-newline-spec =
@@ -47,10 +54,14 @@ find-newline-spec =
     (tie.spec
     Inv-loop
     μ-loop
-    loop-holds
-    shared-slice-read-if1
     returns
+    loop-holds
+    sub-loop
+    has-newline-requires
+    next-newline-requires
+    returns-2
     add-i
     loop-less
     loop-again
-    returns-2)
+    next-newline-requires-2
+    returns-3)
