@@ -1,9 +1,9 @@
-pub mod Examples
+mod Examples
+mod FieldTurns
+mod LineTurns
+pub mod FieldAgain
 pub mod LineAgain
-pub mod LineTurns
 pub mod LinesAgain
 pub mod LinesCut
-pub mod LinesGoing
-pub mod Reading
-pub mod RoundTrip
+pub mod LinesTurns
 pub mod Writing

@@ -12,7 +12,7 @@ use Rattle.sheet.specs.declared.field.FieldRead.{FieldRead}
 use Rattle.sheet.specs.declared.field.FieldRead.the-variants.{Number, Bad}
 use Rattle.sheet.specs.Field.{fieldWidth, readField, fieldOf}
 use Rattle.sheet.specs.Line.{Reading, read, broken, onto, before, fields, lengthOk, readWithin, lineOf, InRange}
-use Rattle.sheet.proofs.RoundTrip.{length-field, read-written, read-only, read-range}
+use Rattle.sheet.proofs.FieldAgain.{length-field, read-written, read-only, read-range}
 use Rattle.sheet.proofs.Writing.{length-line}
 
 -- ---- lengths

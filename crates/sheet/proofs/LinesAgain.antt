@@ -1,18 +1,14 @@
 -- The lines of an input joined are the input again, and no line holds a newline. Assumes nothing.
 use Prim.Native.Nat.{ℕ, zero, suc, _+_, _-_, _≤_, _<_}
-use native.Mathlib.Nat.{add-zero}
-use native.Mathlib.Numerals.{add-one}
 use native.Mathlib.Omega.{arith}
 use native.Mathlib.Decide.{ℕ-discrete}
 use mathlib.Core.Path.{_≡_, refl, sym, ap, _∙_}
-use mathlib.Core.Bool.{Bool, true, false, _||_, true≢false}
-use lib.Dec.{eqb}
 use mathlib.Core.Logic.{_⊎_, ⊎-elim}
 use mathlib.Core.List.{List, [], _∷_, _++_, append-nil, append-assoc, append-cancel-left, List·Memᴰ, List·Memᴰ·not-nil, List·Memᴰ·cases-cons}
-use lib.ListN.{length, getD, take, drop, length-append, take-append-drop, length-drop, drop-of-length-le}
-use lib.Seq.{drop-append-add, drop-append-seam, drop-cons, drop-drop, take-all}
-use borrow.Author.Tests.{eqb-false, eq-eqb, ne-eqb}
-use Rattle.sheet.specs.Lines.{newline, ahead, whole, joined, rest, lastLine, linesOf, lineEnd, Clear}
+use lib.ListN.{length, take, drop, length-append, take-append-drop, length-drop}
+use lib.Seq.{drop-append-add, drop-append-seam, drop-drop, take-all}
+use borrow.Author.Tests.{eq-eqb, ne-eqb}
+use Rattle.sheet.specs.Lines.{newline, ahead, whole, joined, rest, lastLine, linesOf, lineEnd}
 
 -- ---- no newline
 
@@ -257,11 +253,11 @@ module _ (n : ℕ) (s : List ℕ) where
 
 -- ---- the first line, by where it ends
 
-end-other : (b : ℕ) (s : List ℕ) → (b ≡ newline → ⊥) → lineEnd (b ∷ s) ≡ suc (lineEnd s)
+pub end-other : (b : ℕ) (s : List ℕ) → (b ≡ newline → ⊥) → lineEnd (b ∷ s) ≡ suc (lineEnd s)
 unfolding lineEnd
 end-other b s q = simp (ne-eqb b newline q)
 
-end-newline : (b : ℕ) (s : List ℕ) → b ≡ newline → lineEnd (b ∷ s) ≡ 0
+pub end-newline : (b : ℕ) (s : List ℕ) → b ≡ newline → lineEnd (b ∷ s) ≡ 0
 unfolding lineEnd
 end-newline b s e = simp (eq-eqb b newline e)
 
@@ -312,43 +308,3 @@ module _ (l : List ℕ) (from e : ℕ) (found : e ≡ from + lineEnd (drop from 
   -- without one: nothing whole is left
   pub line-none : length l ≤ e → whole (drop from l) ≡ []
   line-none h = whole-none (drop from l) (omega (arith, length-drop from l))
-
--- ---- the turns of `next_newline` and `has_newline`
-
-module _ (l : List ℕ) (i : ℕ) where
-  pub end-found : i < length l → getD l i 0 ≡ newline → i ≡ i + lineEnd (drop i l)
-  end-found h e =
-      let z : lineEnd (drop i l) ≡ 0 = ap lineEnd (drop-cons l i 0 h) ∙ end-newline (getD l i 0) (drop (suc i) l) e in
-      omega arith
-
-  pub end-next : i < length l → (getD l i 0 ≡ newline → ⊥) → i + lineEnd (drop i l) ≡ i + 1 + lineEnd (drop (i + 1) l)
-  end-next h q =
-      let one : lineEnd (drop i l) ≡ suc (lineEnd (drop (i + 1) l)) =
-      ap lineEnd (drop-cons l i 0 h)
-      ∙ end-other (getD l i 0) (drop (suc i) l) q
-      ∙ ap (λ (k : ℕ). suc (lineEnd (drop k l))) (sym (add-one i)) in
-      omega arith
-
-  pub end-past : length l ≤ i → i ≡ i + lineEnd (drop i l)
-  unfolding lineEnd
-  end-past h =
-      let z : lineEnd (drop i l) ≡ 0 = ap lineEnd (drop-of-length-le l h) in
-      omega arith
-
-or-none : (a b : Bool) → (a || b) ≡ false → (a ≡ false) × (b ≡ false)
-or-none true b h = absurd (true≢false h)
-or-none false b h = (refl, h)
-
--- one byte more of a block
-pub block-next : (l : List ℕ) (at k : ℕ) (found : Bool) → at + k < length l → (found ≡ false → Clear l at (at + k))
-    → (found || eqb (getD l (at + k) 0) newline) ≡ false → Clear l at (at + (k + 1))
-block-next l at k found h clear none =
-    let both : (found ≡ false) × (eqb (getD l (at + k) 0) newline ≡ false) = or-none found (eqb (getD l (at + k) 0) newline) none in
-    let e : at + k + 1 ≡ at + (k + 1) = omega arith in
-    clear (both .0) ∙ end-next l (at + k) h (eqb-false (getD l (at + k) 0) newline (both .1)) ∙ ap (λ (m : ℕ). m + lineEnd (drop m l)) e
-
-pub block-none : (l : List ℕ) (at : ℕ) → Clear l at (at + 0)
-block-none l at = ap (λ (m : ℕ). m + lineEnd (drop m l)) (sym (add-zero at))
-
-pub clear-same : (l : List ℕ) (at i j : ℕ) → i ≡ j → Clear l at i → Clear l at j
-clear-same l at i j e clear = clear ∙ ap (λ (m : ℕ). m + lineEnd (drop m l)) e

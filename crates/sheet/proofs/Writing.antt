@@ -10,7 +10,7 @@ use lib.ListN.{length, getD, set, take, drop, length-append, length-drop, length
 use lib.Seq.{length-take-le, drop-cons, set-at, take-at, drop-at, take-suc, take-length, drop-append-add, drop-drop}
 use Rattle.sheet.specs.Field.{fieldWidth, space, columns, fieldOf, spaces, put}
 use Rattle.sheet.specs.Line.{lineOf}
-use Rattle.sheet.proofs.RoundTrip.{spaces-one, columns-none, columns-more, length-columns, length-field}
+use Rattle.sheet.proofs.FieldAgain.{spaces-one, columns-none, columns-more, length-columns, length-field}
 
 -- ---- put
 

@@ -12,7 +12,7 @@ ghost use Rattle.sheet.specs.Line.{lineOf};
 pub const FIELD: usize = 11;
 
 // One more than the largest number of a field.
-pub const NUMBERS: u64 = 4_294_967_296;
+pub const NUMBER_LIMIT: u64 = 4_294_967_296;
 
 // What a field says.
 pub enum FieldRead {
@@ -53,7 +53,7 @@ fn read_digits(line: &[u8], from: usize, end: usize) -> FieldRead
         v = v * 10 + ((b - b'0') as u64);
         i += 1;
     }
-    if v < NUMBERS {
+    if v < NUMBER_LIMIT {
         return FieldRead::Number(v as u32);
     }
     FieldRead::Bad

@@ -4,7 +4,7 @@ use native.Mathlib.Omega.{arith}
 use mathlib.Core.Path.{sym, _∙_}
 use borrow.Author.Tests.{lt-ltb, le-ltb}
 use Rattle.sheet.specs.Field.{inRange}
-use Rattle.sheet.proofs.Reading.{DigitsTo, digits-first, digits-next, digits-fit, digits-last, at-low, at-high}
+use Rattle.sheet.proofs.FieldTurns.{DigitsTo, digits-first, digits-next, digits-fit, digits-last, at-low, at-high}
 use Rattle.sheet.proofs.field.read_digits.Statement.{statement}
 use Rattle.sheet.proofs.field.read_digits.Tie as tie
 

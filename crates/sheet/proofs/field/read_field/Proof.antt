@@ -1,7 +1,7 @@
 -- `read_field` is `readField` of the field: what its spaces end at decides.
 use mathlib.Core.Path.{sym, _∙_}
 use borrow.Author.Needs.{needs}
-use Rattle.sheet.proofs.Reading.{field-none, field-leading, field-zero, field-digits}
+use Rattle.sheet.proofs.FieldTurns.{field-none, field-leading, field-zero, field-digits}
 use Rattle.sheet.proofs.field.read_field.Statement.{statement}
 use Rattle.sheet.proofs.field.read_field.Tie as tie
 

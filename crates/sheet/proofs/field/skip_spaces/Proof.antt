@@ -4,7 +4,7 @@ use native.Mathlib.Omega.{arith}
 use mathlib.Core.Path.{_≡_, refl, _∙_}
 use lib.Seq.{slice}
 use Rattle.sheet.specs.Field.{spaced}
-use Rattle.sheet.proofs.Reading.{at-space}
+use Rattle.sheet.proofs.FieldTurns.{at-space}
 use Rattle.sheet.proofs.field.skip_spaces.Statement.{statement}
 use Rattle.sheet.proofs.field.skip_spaces.Tie as tie
 

@@ -5,7 +5,7 @@ use mathlib.Core.Path.{refl, sym, _∙_}
 use lib.ListN.{length}
 use borrow.Author.Needs.{needs}
 use Rattle.sheet.specs.Lines.{Clear}
-use Rattle.sheet.proofs.LinesAgain.{end-past}
+use Rattle.sheet.proofs.LinesTurns.{end-past}
 use Rattle.sheet.proofs.lines.find_newline.Statement.{statement}
 use Rattle.sheet.proofs.lines.find_newline.Tie as tie
 

@@ -4,7 +4,7 @@ use native.Mathlib.Omega.{arith}
 use mathlib.Core.Path.{_≡_, ap}
 use mathlib.Core.Bool.{false}
 use Rattle.sheet.specs.Lines.{Clear, blockWidth}
-use Rattle.sheet.proofs.LinesAgain.{block-none, block-next, clear-same}
+use Rattle.sheet.proofs.LinesTurns.{block-none, block-next, clear-same}
 use Rattle.sheet.proofs.lines.has_newline.Statement.{statement}
 use Rattle.sheet.proofs.lines.has_newline.Tie as tie
 

@@ -4,7 +4,7 @@ use native.Mathlib.Omega.{arith}
 use mathlib.Core.Path.{_≡_, refl, sym, _∙_}
 use lib.ListN.{length, drop}
 use Rattle.sheet.specs.Lines.{lineEnd}
-use Rattle.sheet.proofs.LinesAgain.{end-found, end-next, end-past}
+use Rattle.sheet.proofs.LinesTurns.{end-found, end-next, end-past}
 use Rattle.sheet.proofs.lines.next_newline.Statement.{statement}
 use Rattle.sheet.proofs.lines.next_newline.Tie as tie
 

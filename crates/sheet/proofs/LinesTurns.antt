@@ -1,16 +1,60 @@
--- A loop that answers the lines of an input one after the other into a buffer: its turns. Assumes nothing.
+-- The turns of the loops over many lines: the search for a newline, and answers written one after the other. Assumes nothing.
 use Prim.Native.Nat.{ℕ, zero, suc, _+_, _-_, _≤_, _<_}
+use native.Mathlib.Nat.{add-zero}
 use native.Mathlib.Numerals.{add-one}
 use native.Mathlib.Omega.{arith}
 use mathlib.Core.Path.{_≡_, refl, sym, ap, _∙_}
+use mathlib.Core.Bool.{Bool, true, false, _||_, true≢false}
 use mathlib.Core.List.{List, [], _∷_, _++_, append-nil}
-use lib.ListN.{length, set, take, drop, length-append, length-drop, drop-of-length-le}
-use lib.Seq.{length-take-le, take-all, drop-drop}
+use lib.Dec.{eqb}
+use lib.ListN.{length, getD, set, take, drop, length-append, length-drop, drop-of-length-le}
+use lib.Seq.{length-take-le, take-all, drop-cons, drop-drop}
+use borrow.Author.Tests.{eqb-false}
 use Rattle.sheet.specs.Field.{put}
-use Rattle.sheet.specs.Lines.{newline, whole, joined, lineEnd, answers, statesAfter}
-use Rattle.sheet.proofs.LinesAgain.{joined-append, whole-off, line-at, line-none}
+use Rattle.sheet.specs.Lines.{newline, whole, joined, lineEnd, Clear, answers, statesAfter}
+use Rattle.sheet.proofs.LinesAgain.{end-other, end-newline, joined-append, whole-off, line-at, line-none}
 use Rattle.sheet.proofs.LinesCut.{answers-append, states-append}
 use Rattle.sheet.proofs.Writing.{put-more, put-seam}
+
+-- ---- the turns of `next_newline` and `has_newline`
+
+module _ (l : List ℕ) (i : ℕ) where
+  pub end-found : i < length l → getD l i 0 ≡ newline → i ≡ i + lineEnd (drop i l)
+  end-found h e =
+      let z : lineEnd (drop i l) ≡ 0 = ap lineEnd (drop-cons l i 0 h) ∙ end-newline (getD l i 0) (drop (suc i) l) e in
+      omega arith
+
+  pub end-next : i < length l → (getD l i 0 ≡ newline → ⊥) → i + lineEnd (drop i l) ≡ i + 1 + lineEnd (drop (i + 1) l)
+  end-next h q =
+      let one : lineEnd (drop i l) ≡ suc (lineEnd (drop (i + 1) l)) =
+      ap lineEnd (drop-cons l i 0 h)
+      ∙ end-other (getD l i 0) (drop (suc i) l) q
+      ∙ ap (λ (k : ℕ). suc (lineEnd (drop k l))) (sym (add-one i)) in
+      omega arith
+
+  pub end-past : length l ≤ i → i ≡ i + lineEnd (drop i l)
+  unfolding lineEnd
+  end-past h =
+      let z : lineEnd (drop i l) ≡ 0 = ap lineEnd (drop-of-length-le l h) in
+      omega arith
+
+or-none : (a b : Bool) → (a || b) ≡ false → (a ≡ false) × (b ≡ false)
+or-none true b h = absurd (true≢false h)
+or-none false b h = (refl, h)
+
+-- one byte more of a block
+pub block-next : (l : List ℕ) (at k : ℕ) (found : Bool) → at + k < length l → (found ≡ false → Clear l at (at + k))
+    → (found || eqb (getD l (at + k) 0) newline) ≡ false → Clear l at (at + (k + 1))
+block-next l at k found h clear none =
+    let both : (found ≡ false) × (eqb (getD l (at + k) 0) newline ≡ false) = or-none found (eqb (getD l (at + k) 0) newline) none in
+    let e : at + k + 1 ≡ at + (k + 1) = omega arith in
+    clear (both .0) ∙ end-next l (at + k) h (eqb-false (getD l (at + k) 0) newline (both .1)) ∙ ap (λ (m : ℕ). m + lineEnd (drop m l)) e
+
+pub block-none : (l : List ℕ) (at : ℕ) → Clear l at (at + 0)
+block-none l at = ap (λ (m : ℕ). m + lineEnd (drop m l)) (sym (add-zero at))
+
+pub clear-same : (l : List ℕ) (at i j : ℕ) → i ≡ j → Clear l at i → Clear l at j
+clear-same l at i j e clear = clear ∙ ap (λ (m : ℕ). m + lineEnd (drop m l)) e
 
 -- ---- a part of a buffer that is lent from a place to the end
 

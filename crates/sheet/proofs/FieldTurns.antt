@@ -10,7 +10,7 @@ use lib.Seq.{slice, slice-cons, slice-empty, length-slice}
 use borrow.Author.Tests.{le-leb, lt-leb, eq-eqb}
 use Rattle.sheet.specs.declared.field.FieldRead.the-variants.{Number, Bad}
 use Rattle.sheet.specs.Field.{fieldWidth, space, inRange, digits, start, spaced, readField, SkipsTo}
-use Rattle.sheet.proofs.RoundTrip.{digits-more, start-digit, spaced-digit}
+use Rattle.sheet.proofs.FieldAgain.{digits-more, start-digit, spaced-digit}
 
 -- a part begins with the element at its first place
 pub slice-one : (l : List ℕ) (i end : ℕ) → i < end → end ≤ length l → slice i end l ≡ getD l i 0 ∷ slice (i + 1) end l
