@@ -1,5 +1,5 @@
 -- The turns of the loops over many lines: the search for a newline, and answers written one after the other. Assumes nothing.
-use Prim.Native.Nat.{ℕ, zero, suc, _+_, _-_, _≤_, _<_}
+use Prim.Native.Nat.{ℕ, zero, suc, min, _+_, _-_, _≤_, _<_}
 use native.Mathlib.Nat.{add-zero}
 use native.Mathlib.Numerals.{add-one}
 use native.Mathlib.Omega.{arith}
@@ -7,11 +7,11 @@ use mathlib.Core.Path.{_≡_, refl, sym, ap, _∙_}
 use mathlib.Core.Bool.{Bool, true, false, _||_, true≢false}
 use mathlib.Core.List.{List, [], _∷_, _++_, append-nil}
 use lib.Dec.{eqb}
-use lib.ListN.{length, getD, set, take, drop, length-append, length-drop, drop-of-length-le}
-use lib.Seq.{length-take-le, take-all, drop-cons, drop-drop}
+use lib.ListN.{length, getD, set, take, drop, length-append, length-take, length-drop, drop-of-length-le}
+use lib.Seq.{slice, length-take-le, take-all, take-suc, drop-cons, drop-drop, append-snoc, set-at, getD-take, getD-drop, getD-append-add}
 use borrow.Author.Tests.{eqb-false}
 use Rattle.sheet.specs.Field.{put}
-use Rattle.sheet.specs.Lines.{newline, whole, joined, lineEnd, Clear, answers, statesAfter}
+use Rattle.sheet.specs.Lines.{newline, whole, joined, lineEnd, Clear, keptWidth, keptOf, answers, statesAfter}
 use Rattle.sheet.proofs.LinesAgain.{end-other, end-newline, joined-append, whole-off, line-at, line-none}
 use Rattle.sheet.proofs.LinesCut.{answers-append, states-append}
 use Rattle.sheet.proofs.Writing.{put-more, put-seam}
@@ -55,6 +55,48 @@ block-none l at = ap (λ (m : ℕ). m + lineEnd (drop m l)) (sym (add-zero at))
 
 pub clear-same : (l : List ℕ) (at i j : ℕ) → i ≡ j → Clear l at i → Clear l at j
 clear-same l at i j e clear = clear ∙ ap (λ (m : ℕ). m + lineEnd (drop m l)) e
+
+-- ---- the turns of `keep`: bytes from a place on, moved to the front
+
+module _ (l k : List ℕ) (from : ℕ) (fits : from + length k ≤ length l) (same : (i : ℕ) → i < length k → getD l (from + i) 0 ≡ getD k i 0) where
+  -- the byte moved is still as it was
+  moved-read : (i : ℕ) → i < length k → getD (take i k ++ drop i l) (from + i) 0 ≡ getD k i 0
+  moved-read i h =
+      let front : length (take i k) ≡ i = length-take-le i k (omega arith) in
+      let place : from + i ≡ length (take i k) + from = omega arith in
+      let back : i + from ≡ from + i = omega arith in
+      ap (λ (n : ℕ). getD (take i k ++ drop i l) n 0) place
+      ∙ getD-append-add (take i k) (drop i l) from 0
+      ∙ getD-drop i l from 0
+      ∙ ap (λ (n : ℕ). getD l n 0) back
+      ∙ same i h
+
+  pub moved-next : (i : ℕ) → i < length k
+      → set (take i k ++ drop i l) i (getD (take i k ++ drop i l) (from + i) 0) ≡ take (i + 1) k ++ drop (i + 1) l
+  moved-next i h =
+      let front : length (take i k) ≡ i = length-take-le i k (omega arith) in
+      ap (λ (v : ℕ). set (take i k ++ drop i l) i v) (moved-read i h)
+      ∙ ap (λ (t : List ℕ). set (take i k ++ t) i (getD k i 0)) (drop-cons l i 0 (omega arith))
+      ∙ set-at (take i k) (getD l i 0) (drop (suc i) l) (getD k i 0) i front
+      ∙ sym (append-snoc (take i k) (getD k i 0) (drop (suc i) l))
+      ∙ ap (λ (t : List ℕ). t ++ drop (suc i) l) (sym (take-suc k i 0 h))
+      ∙ ap (λ (n : ℕ). take n k ++ drop n l) (sym (add-one i))
+
+-- how many bytes are kept
+pub kept-length : (l : List ℕ) (from have : ℕ) → length (keptOf l from have) ≡ min keptWidth (min have (length l) - from)
+unfolding keptOf
+kept-length l from have =
+    length-take keptWidth (slice from have l)
+    ∙ ap (min keptWidth) (length-drop from (take have l) ∙ ap (λ (n : ℕ). n - from) (length-take have l))
+
+-- and that they are the buffer's
+pub kept-same : (l : List ℕ) (from have i : ℕ) → i < length (keptOf l from have) → getD l (from + i) 0 ≡ getD (keptOf l from have) i 0
+unfolding keptOf
+kept-same l from have i h =
+    let n : length (keptOf l from have) ≡ min keptWidth (min have (length l) - from) = kept-length l from have in
+    sym (getD-take keptWidth (slice from have l) i 0 (omega arith)
+    ∙ getD-drop from (take have l) i 0
+    ∙ getD-take have l (from + i) 0 (omega arith))
 
 -- ---- a part of a buffer that is lent from a place to the end
 

@@ -1,10 +1,13 @@
 -- Many lines: how bytes part into lines, and what a step for one line makes of them, whole or read in parts.
-use Prim.Native.Nat.{ℕ, zero, suc, _+_}
+use Prim.Native.Nat.{ℕ, zero, suc, _+_, _*_}
 use mathlib.Core.Path.{_≡_}
 use mathlib.Core.Bool.{cond}
 use mathlib.Core.List.{List, [], _∷_, _++_}
 use lib.Dec.{eqb}
 use lib.ListN.{length, take, drop}
+use lib.Seq.{slice}
+use Rattle.sheet.specs.Field.{fieldWidth}
+use Rattle.sheet.specs.Line.{lineFields}
 
 abbrev pub newline : ℕ
 newline = 10
@@ -49,6 +52,14 @@ Clear l from to = from + lineEnd (drop from l) ≡ to + lineEnd (drop to l)
 -- the bytes that `find_newline` tries at once
 abbrev pub blockWidth : ℕ
 blockWidth = 16
+
+-- the bytes of a line begun that are kept from one read to the next: one more than a line may have
+abbrev pub keptWidth : ℕ
+keptWidth = fieldWidth * lineFields + 1
+
+-- what is kept of the bytes from place `from` to place `have`
+unfoldable pub keptOf : List ℕ → ℕ → ℕ → List ℕ
+keptOf l from have = take keptWidth (slice from have l)
 
 -- parts of an input, one after the other
 unfoldable pub together : List (List ℕ) → List ℕ

@@ -1,10 +1,13 @@
 // Many lines.
 
-ghost use Prim.Native.Nat.{_+_, _≤_};
+ghost use Prim.Native.Nat.{min, _+_, _-_, _≤_};
 ghost use mathlib.Core.Path.{_≡_};
 ghost use mathlib.Core.Bool.{false};
+ghost use mathlib.Core.List.{_++_};
 ghost use lib.ListN.{length, drop};
-ghost use Rattle.sheet.specs.Lines.{lineEnd, Clear, blockWidth};
+ghost use Rattle.sheet.specs.Lines.{lineEnd, Clear, blockWidth, keptWidth, keptOf};
+use crate::field::FIELD;
+use crate::line::LINE_FIELDS;
 
 // The bytes that `find_newline` tries at once.
 const BLOCK: usize = 16;
@@ -23,7 +26,7 @@ fn has_newline(input: &[u8], at: usize) -> bool
     found
 }
 
-// The place of the first newline from `from` on, or the length, byte by byte.
+// The same as `find_newline`, byte by byte.
 fn next_newline(input: &[u8], from: usize) -> usize
     ensures { λ r. ⌜ r ≡ from + lineEnd (drop from (now (input .entry))) ⌝ }
 {
@@ -37,7 +40,7 @@ fn next_newline(input: &[u8], from: usize) -> usize
     i
 }
 
-// The place of the first newline from `from` on, or the length.
+// The place of the first newline from `from` on, or the length; `from` where that is past the length.
 pub fn find_newline(input: &[u8], from: usize) -> usize
     ensures { λ r. ⌜ r ≡ from + lineEnd (drop from (now (input .entry))) ⌝ }
 {
@@ -52,4 +55,42 @@ pub fn find_newline(input: &[u8], from: usize) -> usize
         i += BLOCK;
     }
     next_newline(input, i)
+}
+
+// The bytes of a line begun that are kept from one read to the next.
+pub const KEPT: usize = FIELD * LINE_FIELDS + 1;
+
+// The smaller of two numbers.
+fn smaller(a: usize, b: usize) -> usize
+    ensures { λ r. ⌜ r ≡ min a b ⌝ }
+{
+    if a < b {
+        return a;
+    }
+    b
+}
+
+// How many bytes from `from` to `have`, or to `len` if that is less, are kept.
+fn kept_count(len: usize, from: usize, have: usize) -> usize
+    ensures { λ r. ⌜ r ≡ min keptWidth (min have len - from) ⌝ }
+{
+    let end = smaller(have, len);
+    if end <= from {
+        return 0;
+    }
+    smaller(KEPT, end - from)
+}
+
+// What is kept of the bytes from `from` to `have`, moved to the front. Answers how many they are.
+pub fn keep(buf: &mut [u8], from: usize, have: usize) -> usize
+    ensures { λ r. ⌜ r ≡ length (keptOf (now (buf .entry)) from have) ⌝ }
+    ensures { λ _. ⌜ now (buf .exit) ≡ keptOf (now (buf .entry)) from have ++ drop (length (keptOf (now (buf .entry)) from have)) (now (buf .entry)) ⌝ }
+{
+    let n = kept_count(buf.len(), from, have);
+    let mut i = 0;
+    while i < n {
+        buf[i] = buf[from + i];
+        i += 1;
+    }
+    n
 }
