@@ -11,7 +11,7 @@ use lib.ListN.{length, getD, set, take, drop, length-append, length-take, length
 use lib.Seq.{slice, length-take-le, take-all, take-suc, drop-cons, drop-drop, append-snoc, set-at, getD-take, getD-drop, getD-append-add}
 use borrow.Author.Tests.{eqb-false}
 use Rattle.sheet.specs.Field.{put}
-use Rattle.sheet.specs.Lines.{newline, whole, joined, lineEnd, Clear, keptWidth, keptOf, answers, statesAfter}
+use Rattle.sheet.specs.Lines.{newline, whole, joined, rest, lineEnd, Clear, keptWidth, keptOf, answers, statesAfter}
 use Rattle.sheet.proofs.LinesAgain.{end-other, end-newline, joined-append, whole-off, line-at, line-none}
 use Rattle.sheet.proofs.LinesCut.{answers-append, states-append}
 use Rattle.sheet.proofs.Writing.{put-more, put-seam}
@@ -97,6 +97,11 @@ kept-same l from have i h =
     sym (getD-take keptWidth (slice from have l) i 0 (omega arith)
     ∙ getD-drop from (take have l) i 0
     ∙ getD-take have l (from + i) 0 (omega arith))
+
+-- behind the whole lines that were answered: what `stream` keeps
+pub kept-rest : (l : List ℕ) (used have : ℕ) → used ≡ length (joined (whole (take have l))) → keptOf l used have ≡ take keptWidth (rest (take have l))
+unfolding keptOf rest
+kept-rest l used have e = ap (λ (n : ℕ). take keptWidth (drop n (take have l))) e
 
 -- ---- a part of a buffer that is lent from a place to the end
 
