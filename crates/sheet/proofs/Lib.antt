@@ -1,0 +1,9 @@
+mod Examples
+mod FieldTurns
+mod LineTurns
+pub mod FieldAgain
+pub mod LineAgain
+pub mod LinesAgain
+pub mod LinesCut
+pub mod LinesTurns
+pub mod Writing

@@ -1,0 +1,5 @@
+// The sheet: its fields, its lines, and many lines.
+
+pub mod field;
+pub mod line;
+pub mod lines;
