@@ -119,7 +119,7 @@ fn answer_of(s: Supervisor, refusal: u32, output: Output) -> Answer
 }
 
 // A refusal keeps the state.
-fn refused(s: Supervisor, refusal: u32) -> Answered
+pub fn refused(s: Supervisor, refusal: u32) -> Answered
     ensures { λ r. ⌜ r ≡ refusedOf s refusal ⌝ }
 {
     let a = answer_of(s, refusal, Output::Nothing);

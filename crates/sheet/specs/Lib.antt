@@ -1,3 +1,5 @@
 pub mod Field
 pub mod Line
 pub mod Lines
+pub mod Kinds
+pub mod Entry

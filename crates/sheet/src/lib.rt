@@ -3,3 +3,5 @@
 pub mod field;
 pub mod line;
 pub mod lines;
+pub mod kinds;
+pub mod entry;

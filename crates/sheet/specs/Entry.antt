@@ -1,0 +1,44 @@
+-- A call by line: the state, the refusal and the whole buffer after it.
+use Prim.Native.Nat.{ℕ}
+use mathlib.Core.Bool.{cond}
+use mathlib.Core.List.{List, _++_}
+use lib.Dec.{ltb}
+use lib.ListN.{length, drop}
+use Rattle.falcon_core.specs.declared.state.Supervisor.{Supervisor}
+use Rattle.falcon_core.specs.declared.calls.Answered.{Answered}
+use Rattle.falcon_core.specs.Calls.{numbersOf}
+use Rattle.sheet.specs.Line.{answerWidth, Reading, read, broken, readLine, lineOf}
+use Rattle.sheet.specs.Kinds.{Asked, refuses, requestOf, answeredBy}
+
+-- 9: "answer buffer under 110 bytes; nothing written"
+abbrev pub shortBuffer : ℕ
+shortBuffer = 9
+
+-- 2: "length 0, no multiple of 11, over 1,430, or a bad field"
+abbrev pub notALine : ℕ
+notALine = 2
+
+-- what a line asks once it is read
+abbrev pub askedBy : Reading → Asked
+askedBy (read ns) = requestOf ns
+askedBy broken = refuses notALine
+
+-- what a line asks: 2, 3, 4 and 5 in this order
+unfoldable pub askedLine : List ℕ → Asked
+askedLine line = askedBy (readLine line)
+
+-- what a call by line asks, with its answer buffer: 9 comes first
+unfoldable pub askedWith : List ℕ → List ℕ → Asked
+askedWith line out = cond (ltb (length out) answerWidth) (refuses shortBuffer) (askedLine line)
+
+-- the answer to a call by line
+unfoldable pub lineStep : Supervisor → List ℕ → List ℕ → Answered
+lineStep s line out = answeredBy s (askedWith line out)
+
+-- the answer's ten fields as bytes
+unfoldable pub replyOf : Answered → List ℕ
+replyOf a = lineOf (numbersOf (a .answer))
+
+-- "under 110 bytes nothing is written; else the ten fields", and "Bytes after 110 are untouched."
+unfoldable pub bufferAfter : Supervisor → List ℕ → List ℕ → List ℕ
+bufferAfter s line out = cond (ltb (length out) answerWidth) out (replyOf (lineStep s line out) ++ drop answerWidth out)
