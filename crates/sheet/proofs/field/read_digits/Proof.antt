@@ -25,14 +25,14 @@ returns c =
     let inv = c .before .before .before .loop .inv in
     let a = c .before .before .before .before .args in
     let l = c .before .before .before .loop in
-    sym (inv .same ∙ at-low (a .line .now) (l .i) (a .end) (l .v) (omega arith) (omega arith) (c .if1 .taken))
+    sym (inv .same ∙ at-low (a .line .now) (l .i) (a .end) (l .v) (omega arith) (omega arith) (omega arith))
 
 returns-2 : tie.Need-returns-2 Inv-loop μ-loop
 returns-2 c =
     let inv = c .before .before .before .before .loop .inv in
     let a = c .before .before .before .before .before .args in
     let l = c .before .before .before .before .loop in
-    sym (inv .same ∙ at-high (a .line .now) (l .i) (a .end) (l .v) (omega arith) (omega arith) (c .if2 .taken))
+    sym (inv .same ∙ at-high (a .line .now) (l .i) (a .end) (l .v) (omega arith) (omega arith) (omega arith))
 
 mul-v : tie.Need-mul-v Inv-loop μ-loop
 mul-v c =

@@ -1,4 +1,5 @@
 -- `read_field` is `readField` of the field: what its spaces end at decides.
+use native.Mathlib.Omega.{arith}
 use mathlib.Core.Path.{sym, _∙_}
 use borrow.Author.Needs.{needs}
 use Rattle.sheet.proofs.FieldTurns.{field-none, field-leading, field-zero, field-digits}
@@ -27,13 +28,13 @@ returns-2 : tie.Need-returns-2
 returns-2 c =
     let s = c .before .before .before .before .skip-spaces in
     let b = c .before .before .before .before .before .before in
-    sym (field-leading (b .args .line .now) (b .args .at) (b .pre) (s .result) (s .ensures) (c .before .before .before .if1 .left) (c .before .if2 .taken) (c .if3 .taken))
+    sym (field-leading (b .args .line .now) (b .args .at) (b .pre) (s .result) (s .ensures) (c .before .before .before .if1 .left) (c .before .if2 .taken) (omega arith))
 
 returns-3 : tie.Need-returns-3
 returns-3 c =
     let s = c .before .before .before .before .skip-spaces in
     let b = c .before .before .before .before .before .before in
-    sym (field-zero (b .args .line .now) (b .args .at) (b .pre) (s .result) (s .ensures) (c .before .before .before .if1 .left) (c .before .if2 .taken) (c .if3 .left))
+    sym (field-zero (b .args .line .now) (b .args .at) (b .pre) (s .result) (s .ensures) (c .before .before .before .if1 .left) (c .before .if2 .taken) (omega arith))
 
 read-digits-requires : tie.Need-read-digits-requires
 read-digits-requires c κs = search needs
