@@ -7,12 +7,14 @@ use crate::estimator::Updated;
 ghost use mathlib.Core.Path.{_≡_};
 ghost use Rattle.relay_batt.specs.Battery.{openedOf, updateOf, heardOf, lostOf};
 
+// What the monitor read: nothing, volts, or volts with amps.
 pub enum Reading {
     Nothing,
     Volts(f32),
     VoltsAmps { volts: f32, amps: f32 },
 }
 
+// `missing_s` is the silence, `present` whether the last tick had a reading, `seen` whether any had.
 pub struct Battery {
     pub est: BatteryEstimator,
     pub state: BattState,

@@ -4,6 +4,7 @@ use crate::curve::sanitize;
 ghost use mathlib.Core.Path.{_≡_};
 ghost use Rattle.relay_batt.specs.Config.{defaultOf, forOpeningVoltsOf, capacityOf, cellsOf};
 
+// Capacity in mAh, cells in series, ohms of the whole pack; thresholds of charge, of volts a cell, and of seconds.
 pub struct BattConfig {
     pub capacity_mah: f32,
     pub cells: u32,

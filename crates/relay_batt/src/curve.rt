@@ -21,6 +21,11 @@ pub struct Knot {
     pub s: f32,
 }
 
+impl Knot {
+    // The most that a cell is taken to have.
+    pub const V_MAX: f32 = 5.0;
+}
+
 const CURVE: [Knot; 8] = [
     Knot { v: 3.50, s: 0.00 },
     Knot { v: 3.65, s: 0.10 },
@@ -43,7 +48,7 @@ fn segment(k0: Knot, k1: Knot, v: f32) -> f32
 pub fn ocv_soc_cell(v_cell: f32) -> f32
     ensures { λ r. ⌜ r ≡ ocvSocCellOf «v_cell» ⌝ }
 {
-    let v = sanitize(v_cell, 0.0, 5.0, 0.0);
+    let v = sanitize(v_cell, 0.0, Knot::V_MAX, 0.0);
     if v <= CURVE[0].v {
         return 0.0;
     }

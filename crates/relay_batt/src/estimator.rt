@@ -39,6 +39,7 @@ impl BattState {
     }
 }
 
+// A pack's configuration, and what one reading leaves for the next.
 pub struct BatteryEstimator {
     pub cfg: BattConfig,
     pub consumed_mah: f32,
@@ -73,6 +74,7 @@ impl BatteryEstimator {
 
     pub const MAH_PER_A_S: f32 = 1000.0 / 3600.0;
 
+    // Nothing used, and the resistance that the configuration gives.
     pub fn new(cfg: BattConfig) -> BatteryEstimator
         ensures { λ r. ⌜ r ≡ newOf cfg ⌝ }
     {

@@ -3,12 +3,14 @@
 ghost use mathlib.Core.Path.{_≡_};
 ghost use Rattle.relay_batt.specs.Latch.{newLatchOf, tripOf};
 
+// Seconds below the threshold, and whether it has tripped.
 pub struct TripLatch {
     pub below_s: f32,
     pub latched: bool,
 }
 
 impl TripLatch {
+    // Not tripped, and not below.
     pub fn new() -> TripLatch
         ensures { λ r. ⌜ r ≡ newLatchOf ⌝ }
     {
@@ -35,6 +37,7 @@ impl TripLatch {
         Self::new()
     }
 
+    // Whether it has tripped.
     pub fn is_latched(self) -> bool
         ensures { λ r. ⌜ r ≡ self .latched ⌝ }
     {
