@@ -6,4 +6,7 @@ pub mod LineAgain
 pub mod LinesAgain
 pub mod LinesCut
 pub mod LinesTurns
+pub mod Answer
+pub mod Asking
+mod Floats
 pub mod Writing

@@ -67,7 +67,7 @@ openingFrom ns =
       «low_batt_v» = floatAt ns 6;
       required = numberAt ns 7;
       passed = numberAt ns 8;
-      «calibration_configured» = flagAt ns 9
+      «calibration_configured» = flagAt ns 9;
     }
 
 unfoldable pub openingLine : List ℕ → Asked
@@ -103,7 +103,7 @@ tickFrom ns =
       «gnss_diverged» = flagAt ns 12;
       «failed_motor» = flagAt ns 13;
       «motor_rpm» = flagAt ns 14;
-      reading = readingFrom ns
+      reading = readingFrom ns;
     }
 
 unfoldable pub tickOk : List ℕ → Bool

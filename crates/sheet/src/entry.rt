@@ -9,8 +9,12 @@ ghost use Rattle.sheet.specs.Kinds.{answeredBy};
 ghost use Rattle.sheet.specs.Entry.{askedLine, lineStep, bufferAfter};
 use crate::field::write_numbers;
 use crate::kinds::numbers_step;
-use crate::line::{read_line, LineRead, ANSWER};
-use falcon_core::calls::{refused, Answer, Answered};
+use crate::line::ANSWER;
+use crate::line::LineRead;
+use crate::line::read_line;
+use falcon_core::calls::Answer;
+use falcon_core::calls::Answered;
+use falcon_core::calls::refused;
 use falcon_core::state::Supervisor;
 
 // 2: not a sheet line.

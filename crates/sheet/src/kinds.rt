@@ -6,10 +6,16 @@ ghost use lib.ListN.{length, drop, take};
 ghost use lib.Ieee.{binary32, ofBits};
 ghost use Rattle.sheet.specs.Kinds.{answeredBy, floatAt, isFlag, flagAt, pointFrom, openingFrom, openingLine, readingFrom, batteryOk};
 ghost use Rattle.sheet.specs.Kinds.{tickFrom, tickOk, tickLine, reportLine, commandLine, pointsLine, requestOf};
-use falcon_core::calls::{refused, Answer, Answered};
-use falcon_core::state::{Opening, Point, Supervisor, Tick};
+use falcon_core::calls::Answer;
+use falcon_core::calls::Answered;
+use falcon_core::calls::refused;
+use falcon_core::state::Opening;
+use falcon_core::state::Point;
+use falcon_core::state::Supervisor;
+use falcon_core::state::Tick;
 use relay_batt::Reading;
-use relay_fsm::{Event, FoundEvent};
+use relay_fsm::Event;
+use relay_fsm::FoundEvent;
 use relay_math::from_bits;
 
 // 3: the kind is not 1..6.

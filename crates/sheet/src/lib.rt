@@ -1,7 +1,7 @@
 // The sheet: its fields, its lines, and many lines.
 
+pub mod entry;
 pub mod field;
+pub mod kinds;
 pub mod line;
 pub mod lines;
-pub mod kinds;
-pub mod entry;

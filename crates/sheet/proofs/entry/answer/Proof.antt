@@ -1,0 +1,48 @@
+use mathlib.Core.Path.{refl, ap, _∙_}
+use mathlib.Core.List.{_++_}
+use lib.ListN.{drop}
+use Rattle.falcon_core.specs.declared.calls.Answered.{Answered}
+use Rattle.falcon_core.specs.Calls.{numbersOf}
+use Rattle.sheet.specs.Line.{answerWidth, lineOf}
+use Rattle.sheet.proofs.Asking.{short-state, short-refusal, short-buffer, full-step, full-buffer}
+use Rattle.sheet.specs.Entry.{lineStep, bufferAfter}
+use borrow.Author.Tests.{lt-ltb, le-ltb, le-leb, lt-leb, eq-eqb, ne-eqb}
+use borrow.Author.Needs.{needs}
+use Rattle.sheet.proofs.entry.answer.Statement.{statement}
+use Rattle.sheet.proofs.entry.answer.Tie as tie
+use Rattle.sheet.proofs.entry.answer.Reads as reads
+use Rattle.sheet.proofs.entry.answer.Lts as lts
+use Rattle.sheet.proofs.entry.step.Reads as step-reads
+use Rattle.sheet.proofs.entry.write_answer.Reads as write-answer-reads
+
+returns : tie.Need-returns
+returns c =
+    (short-state (c .before .before .before .args .s) (c .before .before .before .args .line .now) (c .before .before .before .args .out .now) (c .if1 .taken), (short-refusal (c .before .before .before .args .s) (c .before .before .before .args .line .now) (c .before .before .before .args .out .now) (c .if1 .taken), (short-buffer (c .before .before .before .args .s) (c .before .before .before .args .line .now) (c .before .before .before .args .out .now) (c .if1 .taken), refl)))
+
+step-requires : tie.Need-step-requires
+step-requires c κs = search needs
+
+write-answer-requires : tie.Need-write-answer-requires
+write-answer-requires c κs = search needs
+
+same-length : tie.Need-same-length
+same-length c = search needs
+
+returns-2 : tie.Need-returns-2
+returns-2 c =
+    let e = c .before .before .before .before .before .before .step .ensures ∙ full-step (c .before .before .before .before .before .before .before .before .before .before .args .s) (c .before .before .before .before .before .before .before .before .before .before .args .line .now) (c .before .before .before .before .before .before .before .before .before .before .args .out .now) (c .before .before .before .before .before .before .before .if1 .left) in (
+      ap (λ (x : Answered). x .supervisor) e,
+      (
+        ap (λ (x : Answered). x .answer .refusal) e,
+        (
+          c .before .before .write-answer .ensures
+              ∙ ap (λ (x : Answered). lineOf (numbersOf (x .answer)) ++ drop answerWidth (c .before .before .before .before .before .before .before .before .before .before .args .out .now)) (c .before .before .before .before .before .before .step .ensures)
+              ∙ full-buffer (c .before .before .before .before .before .before .before .before .before .before .args .s) (c .before .before .before .before .before .before .before .before .before .before .args .line .now) (c .before .before .before .before .before .before .before .before .before .before .args .out .now) (c .before .before .before .before .before .before .before .if1 .left),
+          refl,
+        ),
+      ),
+    )
+
+pub answer-spec : {M : Type 1} → statement M
+answer-spec =
+    tie.close (tie.spec returns step-requires write-answer-requires same-length returns-2)

@@ -1,0 +1,62 @@
+use mathlib.Core.Path.{sym, ap, _∙_}
+use Rattle.sheet.specs.Kinds.{answeredBy}
+use Rattle.sheet.proofs.Asking.{asked-read, read-counts, asked-broken, counted}
+use Rattle.sheet.specs.Entry.{askedLine}
+use borrow.Author.Tests.{lt-ltb, le-ltb, le-leb, lt-leb, eq-eqb, ne-eqb}
+use borrow.Author.Needs.{needs}
+use Rattle.sheet.proofs.entry.step.Statement.{statement}
+use Rattle.sheet.proofs.entry.step.Tie as tie
+use Rattle.sheet.proofs.entry.step.Reads as reads
+use Rattle.sheet.proofs.entry.step.Lts as lts
+use Rattle.falcon_core.proofs.calls.refused.Reads as refused-reads
+use Rattle.sheet.proofs.kinds.numbers_step.Reads as numbers-step-reads
+use Rattle.sheet.proofs.line.read_line.Reads as read-line-reads
+
+slice-aggregate-read-line : tie.Need-slice-aggregate-read-line
+slice-aggregate-read-line c = search needs
+
+read-line-requires : tie.Need-read-line-requires
+read-line-requires c κs = search needs
+
+enum-known-count : tie.Need-enum-known-count
+enum-known-count c = search needs
+
+enum-told : tie.Need-enum-told
+enum-told c = search needs
+
+refused-requires : tie.Need-refused-requires
+refused-requires c κs = search needs
+
+returns : tie.Need-returns
+returns c =
+    c .refused .ensures
+    ∙ sym (ap (answeredBy (c .before .before .before .before .before .before .before .args .s)) (asked-broken (c .before .before .before .before .before .before .before .args .line .now) _ _ (c .before .before .before .before .read-line .ensures .0) (c .before .enum-told .given .1)))
+
+array-share-prefix-numbers : tie.Need-array-share-prefix-numbers
+array-share-prefix-numbers c = counted _ _ _ (c .before .before .before .before .read-line .ensures .1) (c .before .count .given .1) .0
+
+slice-aggregate-numbers-step : tie.Need-slice-aggregate-numbers-step
+slice-aggregate-numbers-step c = counted _ _ _ (c .before .before .before .before .before .read-line .ensures .1) (c .before .before .count .given .1) .1
+
+numbers-step-requires : tie.Need-numbers-step-requires
+numbers-step-requires c κs = read-counts (c .before .before .before .before .before .before .before .before .args .line .now) _ _ _ (c .before .before .before .before .before .read-line .ensures .0) (c .before .before .count .given .1)
+
+returns-2 : tie.Need-returns-2
+returns-2 c =
+    c .numbers-step .ensures
+    ∙ sym (ap (answeredBy (c .before .before .before .before .before .before .before .before .before .args .s)) (asked-read (c .before .before .before .before .before .before .before .before .before .args .line .now) _ _ _ (c .before .before .before .before .before .before .read-line .ensures .0) (c .before .before .before .count .given .1)))
+
+pub step-spec : {M : Type 1} → statement M
+step-spec =
+    tie.close
+    (tie.spec
+    slice-aggregate-read-line
+    read-line-requires
+    enum-known-count
+    enum-told
+    refused-requires
+    returns
+    array-share-prefix-numbers
+    slice-aggregate-numbers-step
+    numbers-step-requires
+    returns-2)
