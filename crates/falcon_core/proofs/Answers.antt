@@ -12,10 +12,12 @@ use Rattle.falcon_core.specs.declared.state.Supervisor.{Supervisor}
 use Rattle.falcon_core.specs.declared.tick.Ticked.{Ticked}
 use Rattle.falcon_core.specs.declared.calls.Output.the-variants.{Nothing, Ticks}
 use Rattle.falcon_core.specs.declared.state.Mission.{Mission}
-use Rattle.falcon_core.specs.State.{withMission}
+use Rattle.falcon_core.specs.State.{withMission, withZones}
 use Rattle.falcon_core.specs.Mission.{triedOf, allAdmissibleOf, loadedOf}
+use Rattle.falcon_core.specs.declared.state.Zones.{Zones}
+use Rattle.falcon_core.specs.Zones.{loadedZonesOf}
 use Rattle.falcon_core.specs.Tick.{tickOf}
-use Rattle.falcon_core.specs.Calls.{Request, ticks, points, dueAfter, refusalOf, afterOf, outputOf, refusedOf, acceptedOf, stepOf}
+use Rattle.falcon_core.specs.Calls.{Request, ticks, points, zones, dueAfter, refusalOf, afterOf, outputOf, refusedOf, acceptedOf, stepOf}
 
 -- a refusal that fits is answered and keeps the state
 pub step-refused : (s : Supervisor) (r : Request) (n : ℕ) → refusalOf s r ≡ suc n → stepOf s r ≡ refusedOf s (suc n)
@@ -54,3 +56,14 @@ points-accepted s l m n ok em en eo c o d b =
     let a : allAdmissibleOf (s .flight .config) l (triedOf l) ≡ true = simp en at (sym eo ∙ not-false ok b) in
     let h : refusalOf s (points l) ≡ 0 = simp (c, o, d, a) in
     rw (step-accepted s (points l) h, em)
+
+-- accepted zones, from what their parts are
+pub zones-accepted :
+    (s : Supervisor) (l : List Float) (z : Zones) →
+    z ≡ loadedZonesOf l →
+    eqb (length l % 4) 0 ≡ true →
+    not (s .opened) ≡ false →
+    s .«report_due» ≡ false →
+    acceptedOf (record { flight = withZones (s .flight) z; opened = s .opened; «report_due» = s .«report_due» }) Nothing ≡ stepOf s (zones l)
+unfolding refusalOf afterOf outputOf
+zones-accepted s l z ez c o d = let h : refusalOf s (zones l) ≡ 0 = simp (c, o, d) in rw (step-accepted s (zones l) h, ez)

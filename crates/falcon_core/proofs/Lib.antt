@@ -1,4 +1,5 @@
 pub mod Waypoints
+pub mod KeptZones
 pub mod Milestones
 pub mod Answers
 pub mod Stages

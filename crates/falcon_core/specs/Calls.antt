@@ -22,18 +22,21 @@ use Rattle.falcon_core.specs.declared.calls.Output.{Output}
 use Rattle.falcon_core.specs.declared.calls.Output.the-variants.{Nothing, Ticks}
 use Rattle.falcon_core.specs.declared.calls.Answer.{Answer}
 use Rattle.falcon_core.specs.declared.calls.Answered.{Answered}
-use Rattle.falcon_core.specs.State.{openedOf, withMode, withMission}
+use Rattle.falcon_core.specs.State.{openedOf, withMode, withMission, withZones}
 use Rattle.falcon_core.specs.Mission.{triedOf, allAdmissibleOf, loadedOf}
+use Rattle.falcon_core.specs.Zones.{loadedZonesOf}
 use Rattle.falcon_core.specs.Failsafe.{reportedOf}
 use Rattle.falcon_core.specs.Tick.{tickOf}
 
--- what a call asks: an opening, a tick, a report (failed), a command (event, level, low throttle) or points (three numbers each)
+-- what a call asks: an opening, a tick, a report (failed), a command (event, level, low throttle) points (three numbers each)
+-- or zones (four numbers each)
 pub data Request : Type 0 where
   opens : Opening → Request
   ticks : Tick → Request
   reports : Bool → Request
   commands : Event → Bool → Bool → Request
   points : List Float → Request
+  zones : List Float → Request
 
 -- the refusals' numbers in document 01's table; 0 is accepted
 abbrev pub noOpening : ℕ
@@ -54,13 +57,14 @@ noReportDue = 7
 abbrev pub inadmissible : ℕ
 inadmissible = 8
 
--- 4: "lent points not 3 each"
+-- 4: "lent points not 3 each, zones not 4 each"
 abbrev pub miscounted : Request → Bool
 miscounted (opens o) = false
 miscounted (ticks t) = false
 miscounted (reports failed) = false
 miscounted (commands ev level low) = false
 miscounted (points l) = not (eqb (length l % 3) 0)
+miscounted (zones l) = not (eqb (length l % 4) 0)
 
 -- 5: "mask of 2^21 or more"
 abbrev pub masksTooLarge : Request → Bool
@@ -69,6 +73,7 @@ masksTooLarge (ticks t) = false
 masksTooLarge (reports failed) = false
 masksTooLarge (commands ev level low) = false
 masksTooLarge (points l) = false
+masksTooLarge (zones l) = false
 
 -- an opening is taken before any other call, and while a report is due
 abbrev pub isOpening : Request → Bool
@@ -77,6 +82,7 @@ isOpening (ticks t) = false
 isOpening (reports failed) = false
 isOpening (commands ev level low) = false
 isOpening (points l) = false
+isOpening (zones l) = false
 
 abbrev pub isReport : Request → Bool
 isReport (opens o) = false
@@ -84,6 +90,7 @@ isReport (ticks t) = false
 isReport (reports failed) = true
 isReport (commands ev level low) = false
 isReport (points l) = false
+isReport (zones l) = false
 
 -- 8: "a tried point inadmissible"
 abbrev pub pointRefused : Supervisor → Request → Bool
@@ -92,6 +99,7 @@ pointRefused s (ticks t) = false
 pointRefused s (reports failed) = false
 pointRefused s (commands ev level low) = false
 pointRefused s (points l) = not (allAdmissibleOf (s .flight .config) l (triedOf l))
+pointRefused s (zones l) = false
 
 -- the refusal that fits, in the table's order: 4, 5, 1, 6, 7, 8; 0 where none does
 unfoldable pub refusalOf : Supervisor → Request → ℕ
@@ -129,6 +137,7 @@ afterOf s (ticks t) =
 afterOf s (reports failed) = record { flight = reportedOf (s .flight) failed; opened = s .opened; «report_due» = false }
 afterOf s (commands ev level low) = record { flight = commandedBy (s .flight) ev level low; opened = s .opened; «report_due» = s .«report_due» }
 afterOf s (points l) = record { flight = withMission (s .flight) (loadedOf l); opened = s .opened; «report_due» = s .«report_due» }
+afterOf s (zones l) = record { flight = withZones (s .flight) (loadedZonesOf l); opened = s .opened; «report_due» = s .«report_due» }
 
 -- what an accepted call answers beside the mode and the checks
 unfoldable pub outputOf : Supervisor → Request → Output
@@ -137,6 +146,7 @@ outputOf s (ticks t) = Ticks (tickOf (s .flight) t .answer)
 outputOf s (reports failed) = Nothing
 outputOf s (commands ev level low) = Nothing
 outputOf s (points l) = Nothing
+outputOf s (zones l) = Nothing
 
 -- "the mode as it is", and "the last two fields as they are"
 unfoldable pub answerOf : Supervisor → ℕ → Output → Answer

@@ -13,6 +13,7 @@ use Rattle.relay_preflight.specs.Table.{newOf, legacyPassedOf}
 use Rattle.falcon_core.specs.declared.state.Point.{Point}
 use Rattle.falcon_core.specs.declared.state.Zone.{Zone}
 use Rattle.falcon_core.specs.declared.state.Mission.{Mission}
+use Rattle.falcon_core.specs.declared.state.Zones.{Zones}
 use Rattle.falcon_core.specs.declared.state.Hold.{Hold}
 use Rattle.falcon_core.specs.declared.state.Counts.{Counts}
 use Rattle.falcon_core.specs.declared.state.Opening.{Opening}
@@ -205,4 +206,20 @@ withMotors f off =
       «check_table» = f .«check_table»;
       «rtl_latched» = f .«rtl_latched»;
       «motors_were_off» = off;
+    }
+
+-- the flight with these zones
+abbrev pub withZones : FlightSupervisor → Zones → FlightSupervisor
+withZones f z =
+    record {
+      config = f .config;
+      fsm = f .fsm;
+      battery = f .battery;
+      mission = f .mission;
+      zones = z;
+      hold = f .hold;
+      counts = f .counts;
+      «check_table» = f .«check_table»;
+      «rtl_latched» = f .«rtl_latched»;
+      «motors_were_off» = f .«motors_were_off»;
     }

@@ -1,7 +1,8 @@
 -- `avoid`: the setpoint is deflected around the keep-out zones that the vehicle is near.
-use Prim.Native.Nat.{ℕ, zero, suc, min}
+use Prim.Native.Nat.{ℕ, zero, suc, _+_, _*_, _/_, min}
 use mathlib.Core.Bool.{Bool, cond, _&&_, _||_}
-use lib.ListN.{getD}
+use mathlib.Core.List.{List}
+use lib.ListN.{length, getD, set, replicate}
 use lib.Ieee.{Float, nan, binary32, ofBits, add, sub, mul, div, neg, lt}
 use Rattle.relay_math.specs.Root.{root}
 use Rattle.relay_math.specs.Small.{maxOf, clampOf}
@@ -11,7 +12,7 @@ use Rattle.falcon_core.specs.declared.state.Zones.{Zones}
 use Rattle.falcon_core.specs.declared.state.Horizontal.{Horizontal}
 use Rattle.falcon_core.specs.declared.zones.Goal.{Goal}
 use Rattle.falcon_core.specs.declared.zones.Bearing.{Bearing}
-use Rattle.falcon_core.specs.State.{maxKeepoutZones, zoneOf, nowhere, zerof}
+use Rattle.falcon_core.specs.State.{maxKeepoutZones, pointOf, zoneOf, noZone, nowhere, zerof}
 use Rattle.falcon_core.specs.Geometry.{lengthOf}
 
 -- `KEEPOUT_MARGIN` 1.6, `KEEPOUT_INFLUENCE` 4.0, `KEEPOUT_LOOKAHEAD` 3.0, and the least distance 1e-3
@@ -112,3 +113,20 @@ unfoldable pub avoidOf : Zones → Point → Point → Point
 avoidOf zs p sp =
     let out = aroundAllOf p (goalOf p sp) zs (min (zs .«zone_count») maxKeepoutZones) (record { x = sp .x; y = sp .y }) in
     record { x = out .x; y = out .y; z = sp .z }
+
+-- zone i of a lent list of four numbers each: "centre (three) and radius"
+unfoldable pub zoneAtOf : List Float → ℕ → Zone
+zoneAtOf l i = zoneOf (pointOf (getD l (4 * i) nan) (getD l (4 * i + 1) nan) (getD l (4 * i + 2) nan)) (getD l (4 * i + 3) nan)
+
+-- "Zones: the first 8, untested"
+unfoldable pub keptOf : List Float → ℕ
+keptOf l = min (length l / 4) maxKeepoutZones
+
+-- the first n zones of a lent list, each in its place, and no zone in every other
+unfoldable pub storedZonesOf : List Float → ℕ → List Zone
+storedZonesOf l zero = replicate maxKeepoutZones noZone
+storedZonesOf l (suc n) = set (storedZonesOf l n) n (zoneAtOf l n)
+
+-- `set_keepout_zones`
+unfoldable pub loadedZonesOf : List Float → Zones
+loadedZonesOf l = record { zones = storedZonesOf l (keptOf l); «zone_count» = keptOf l }

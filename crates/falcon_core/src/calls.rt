@@ -1,6 +1,6 @@
 // The calls by lent values. Each takes the state and gives the state after it with its answer.
 ghost use mathlib.Core.Path.{_≡_};
-ghost use Rattle.falcon_core.specs.Calls.{opens, ticks, reports, commands, points, allowedOf, commandedBy, dueAfter, answerOf, refusedOf, acceptedOf};
+ghost use Rattle.falcon_core.specs.Calls.{opens, ticks, reports, commands, points, zones, allowedOf, commandedBy, dueAfter, answerOf, refusedOf, acceptedOf};
 ghost use Rattle.falcon_core.specs.Calls.{stepOf, flag, numbersOf};
 use crate::failsafe::reported;
 use crate::mission::all_admissible;
@@ -12,6 +12,7 @@ use crate::state::Supervisor;
 use crate::state::Tick;
 use crate::tick::TickAnswer;
 use crate::tick::tick;
+use crate::zones::loaded_zones;
 use relay_fsm::Event;
 use relay_fsm::Gates;
 use relay_fsm::Mode;
@@ -46,7 +47,7 @@ impl Answer {
     pub const ACCEPTED: u32 = 0;
     // No opening yet.
     pub const NO_OPENING: u32 = 1;
-    // Lent points not three each.
+    // Lent points not three each, or zones not four each.
     pub const WRONG_COUNT: u32 = 4;
     // A mask of 2^21 or more.
     pub const OUT_OF_RANGE: u32 = 5;
@@ -279,6 +280,28 @@ impl Supervisor {
         let mission = loaded(lent);
         let mut flight = self.flight;
         flight.mission = mission;
+        let mut next = self;
+        next.flight = flight;
+        accepted(next, Output::Nothing)
+    }
+
+    // The keep-out zones, four numbers each: the first eight are kept, untested.
+    pub fn set_keepout_zones(self, lent: &[f32]) -> Answered
+        ensures answered { λ r. ⌜ r ≡ stepOf self (zones (now (lent .entry))) ⌝ }
+        ensures unchanged { λ _. ⌜ now (lent .exit) ≡ now (lent .entry) ⌝ }
+    {
+        if lent.len() % 4 != 0 {
+            return refused(self, Answer::WRONG_COUNT);
+        }
+        if !self.opened {
+            return refused(self, Answer::NO_OPENING);
+        }
+        if self.report_due {
+            return refused(self, Answer::REPORT_DUE);
+        }
+        let loaded = loaded_zones(lent);
+        let mut flight = self.flight;
+        flight.zones = loaded;
         let mut next = self;
         next.flight = flight;
         accepted(next, Output::Nothing)

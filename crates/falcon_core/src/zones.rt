@@ -1,9 +1,10 @@
 // The setpoint is deflected around the keep-out zones that the vehicle is near.
 ghost use mathlib.Core.Path.{_≡_};
-ghost use Prim.Native.Nat.{min};
+ghost use Prim.Native.Nat.{_+_, _*_, _<_, _≤_, min};
+ghost use lib.ListN.{length};
 ghost use Rattle.falcon_core.specs.State.{maxKeepoutZones};
 ghost use Rattle.falcon_core.specs.Zones.{goalOf, bearingOf, alongOf, perpOf, obstructsOf, threatensOf, tangentOf, urgencyOf};
-ghost use Rattle.falcon_core.specs.Zones.{ringOf, deflectedOf, aroundOf, avoidOf};
+ghost use Rattle.falcon_core.specs.Zones.{ringOf, deflectedOf, aroundOf, avoidOf, zoneAtOf, keptOf, storedZonesOf, loadedZonesOf};
 use crate::geometry::length;
 use crate::state::Horizontal;
 use crate::state::Point;
@@ -168,5 +169,59 @@ pub(crate) fn avoid(zs: Zones, p: Point, sp: Point) -> Point
         x: out.x,
         y: out.y,
         z: sp.z,
+    }
+}
+
+// Zone i of a lent list of four numbers each.
+fn zone_at(lent: &[f32], i: usize) -> Zone
+    requires { ⌜ 4 * i + 3 < length (now lent) ⌝ }
+    ensures { λ r. ⌜ r ≡ zoneAtOf (now (lent .entry)) i ⌝ }
+{
+    let center = Point {
+        x: lent[4 * i],
+        y: lent[4 * i + 1],
+        z: lent[4 * i + 2],
+    };
+    Zone {
+        center,
+        radius: lent[4 * i + 3],
+    }
+}
+
+// How many zones of a lent list are kept.
+fn kept(lent: &[f32]) -> usize
+    ensures { λ r. ⌜ r ≡ keptOf (now (lent .entry)) ⌝ }
+{
+    let n = lent.len() / 4;
+    if n < Zone::MAX_KEEPOUT_ZONES {
+        return n;
+    }
+    Zone::MAX_KEEPOUT_ZONES
+}
+
+// The first n zones of a lent list in their places, and no zone in every other.
+fn stored(lent: &[f32], n: usize) -> [Zone; 8]
+    requires { ⌜ (4 * n ≤ length (now lent)) × (n ≤ 8) ⌝ }
+    ensures { λ r. ⌜ r ≡ storedZonesOf (now (lent .entry)) n ⌝ }
+{
+    let zone = Zone::none();
+    let mut zones = [zone; 8];
+    let mut i = 0;
+    while i < n {
+        zones[i] = zone_at(lent, i);
+        i += 1;
+    }
+    zones
+}
+
+// The zones of a lent list.
+pub(crate) fn loaded_zones(lent: &[f32]) -> Zones
+    ensures { λ r. ⌜ r ≡ loadedZonesOf (now (lent .entry)) ⌝ }
+{
+    let n = kept(lent);
+    let zones = stored(lent, n);
+    Zones {
+        zones,
+        zone_count: n as u32,
     }
 }

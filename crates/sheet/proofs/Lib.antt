@@ -10,3 +10,6 @@ pub mod Answer
 pub mod Asking
 mod Floats
 pub mod Writing
+pub mod CallSeen
+pub mod PlaceHolds
+pub mod DemandThree

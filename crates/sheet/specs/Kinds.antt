@@ -16,7 +16,7 @@ use Rattle.falcon_core.specs.declared.state.Tick.{Tick}
 use Rattle.falcon_core.specs.declared.state.Supervisor.{Supervisor}
 use Rattle.falcon_core.specs.declared.calls.Answered.{Answered}
 use Rattle.falcon_core.specs.State.{pointOf}
-use Rattle.falcon_core.specs.Calls.{Request, opens, ticks, reports, commands, points, wrongCount, outOfRange, refusedOf, stepOf}
+use Rattle.falcon_core.specs.Calls.{Request, opens, ticks, reports, commands, points, zones, wrongCount, outOfRange, refusedOf, stepOf}
 
 -- what a line asks, or the refusal that fits it whatever the state
 pub data Asked : Type 0 where
@@ -136,10 +136,15 @@ commandLine ns =
 unfoldable pub pointsLine : List ℕ → Asked
 pointsLine ns = cond (eqb (length ns) (2 + 3 * numberAt ns 1)) (asks (points (map (ofBits binary32) (drop 2 ns)))) (refuses wrongCount)
 
+-- "6 zones: n, then 4 each."
+unfoldable pub zonesLine : List ℕ → Asked
+zonesLine ns = cond (eqb (length ns) (2 + 4 * numberAt ns 1)) (asks (zones (map (ofBits binary32) (drop 2 ns)))) (refuses wrongCount)
+
 -- "The first field is the kind"
 unfoldable pub requestOf : List ℕ → Asked
 requestOf ns =
     cond (eqb (numberAt ns 0) 1) (openingLine ns)
     (cond (eqb (numberAt ns 0) 2) (tickLine ns)
     (cond (eqb (numberAt ns 0) 3) (reportLine ns)
-    (cond (eqb (numberAt ns 0) 4) (commandLine ns) (cond (eqb (numberAt ns 0) 5) (pointsLine ns) (refuses unknownKind)))))
+    (cond (eqb (numberAt ns 0) 4) (commandLine ns)
+    (cond (eqb (numberAt ns 0) 5) (pointsLine ns) (cond (eqb (numberAt ns 0) 6) (zonesLine ns) (refuses unknownKind))))))

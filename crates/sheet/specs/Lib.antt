@@ -3,3 +3,5 @@ pub mod Line
 pub mod Lines
 pub mod Kinds
 pub mod Entry
+pub mod Lists
+pub mod Demand3

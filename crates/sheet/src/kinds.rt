@@ -5,7 +5,7 @@ ghost use Prim.Native.Nat.{_+_, _<_, _≤_};
 ghost use lib.ListN.{length, drop, take};
 ghost use lib.Ieee.{binary32, ofBits};
 ghost use Rattle.sheet.specs.Kinds.{answeredBy, floatAt, isFlag, flagAt, pointFrom, openingFrom, openingLine, readingFrom, batteryOk};
-ghost use Rattle.sheet.specs.Kinds.{tickFrom, tickOk, tickLine, reportLine, commandLine, pointsLine, requestOf};
+ghost use Rattle.sheet.specs.Kinds.{tickFrom, tickOk, tickLine, reportLine, commandLine, pointsLine, zonesLine, requestOf};
 use falcon_core::calls::Answer;
 use falcon_core::calls::Answered;
 use falcon_core::calls::refused;
@@ -219,6 +219,25 @@ fn points_line(s: Supervisor, ns: &[u32]) -> Answered
     s.set_mission_waypoints(&floats[..lent])
 }
 
+// A line of kind 6.
+fn zones_line(s: Supervisor, ns: &[u32]) -> Answered
+    requires { ⌜ length (now ns) ≤ 130 ⌝ }
+    ensures { λ r. ⌜ r ≡ answeredBy s (zonesLine (now (ns .entry))) ⌝ }
+{
+    let n = ns.len();
+    if n < 2 {
+        return refused(s, Answer::WRONG_COUNT);
+    }
+    let count = ns[1] as usize;
+    if n != 2 + 4 * count {
+        return refused(s, Answer::WRONG_COUNT);
+    }
+    let mut floats = [0.0f32; 128];
+    read_floats(&ns[2..], &mut floats);
+    let lent = n - 2;
+    s.set_keepout_zones(&floats[..lent])
+}
+
 // The numbers of a line, answered by its kind.
 pub(crate) fn numbers_step(s: Supervisor, ns: &[u32]) -> Answered
     requires { ⌜ (0 < length (now ns)) × (length (now ns) ≤ 130) ⌝ }
@@ -239,6 +258,9 @@ pub(crate) fn numbers_step(s: Supervisor, ns: &[u32]) -> Answered
     }
     if kind == 5 {
         return points_line(s, ns);
+    }
+    if kind == 6 {
+        return zones_line(s, ns);
     }
     refused(s, UNKNOWN_KIND)
 }

@@ -62,13 +62,19 @@ unfolding requestOf
 returns-5 c = simp (c .points-line .ensures, eq-eqb _ _ (c .before .if5 .taken), ne-eqb _ _ (c .before .before .if4 .left), ne-eqb _ _ (c .before .before .before .if3 .left), ne-eqb _ _ (c .before .before .before .before .if2 .left), ne-eqb _ _ (c .before .before .before .before .before .if1 .left))
 
 -- src/kinds.rt:237:5
+zones-line-requires : tie.Need-zones-line-requires
+zones-line-requires c κs = search needs
+
+returns-6 : tie.Need-returns-6
+unfolding requestOf
+returns-6 c = simp (c .zones-line .ensures, eq-eqb _ _ (c .before .if6 .taken), ne-eqb _ _ (c .before .before .if5 .left), ne-eqb _ _ (c .before .before .before .if4 .left), ne-eqb _ _ (c .before .before .before .before .if3 .left), ne-eqb _ _ (c .before .before .before .before .before .if2 .left), ne-eqb _ _ (c .before .before .before .before .before .before .if1 .left))
+
 refused-requires : tie.Need-refused-requires
 refused-requires c κs = search needs
 
--- src/kinds.rt:217:1
-returns-6 : tie.Need-returns-6
+returns-7 : tie.Need-returns-7
 unfolding requestOf
-returns-6 c = simp (c .refused .ensures, ne-eqb _ _ (c .before .if5 .left), ne-eqb _ _ (c .before .before .if4 .left), ne-eqb _ _ (c .before .before .before .if3 .left), ne-eqb _ _ (c .before .before .before .before .if2 .left), ne-eqb _ _ (c .before .before .before .before .before .if1 .left))
+returns-7 c = simp (c .refused .ensures, ne-eqb _ _ (c .before .if6 .left), ne-eqb _ _ (c .before .before .if5 .left), ne-eqb _ _ (c .before .before .before .if4 .left), ne-eqb _ _ (c .before .before .before .before .if3 .left), ne-eqb _ _ (c .before .before .before .before .before .if2 .left), ne-eqb _ _ (c .before .before .before .before .before .before .if1 .left))
 
 pub numbers-step-spec : {M : Type 1} → statement M
 numbers-step-spec =
@@ -85,5 +91,7 @@ numbers-step-spec =
     returns-4
     points-line-requires
     returns-5
+    zones-line-requires
+    returns-6
     refused-requires
-    returns-6)
+    returns-7)

@@ -1,0 +1,7 @@
+// Lists of calls.
+ghost use Rattle.sheet.specs.Demand3.{Demand3};
+
+// The two-tick, rank and fifty-tick rules hold of every list of calls.
+pub fn demand_three()
+    ensures { λ _. ⌜ Demand3 ⌝ }
+{}
