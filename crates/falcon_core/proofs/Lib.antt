@@ -7,3 +7,4 @@ pub mod Rules
 pub mod Rank
 pub mod Phase
 pub mod Runaway
+pub mod HoldPoint

@@ -1,4 +1,4 @@
--- "No tick or report lowers the rank save a tick with height under 0.15 m that goes to Disarmed through Land", and what ticks and reports leave as it is.
+-- No tick or report lowers the rank, save a tick with height under 0.15 m that goes to Disarmed through Land; and which modes ticks and reports keep.
 -- Assumes nothing.
 use Prim.Native.Nat.{_≤_}
 use native.Mathlib.Nat.{le-trans}

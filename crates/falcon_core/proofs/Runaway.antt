@@ -28,6 +28,10 @@ same→eq true false h = absurd h
 same→eq false true h = absurd h
 same→eq false false h = refl
 
+-- "ticks in a row airborne with tilt strictly above 1.05": every other tick sets the count to 0
+count-is : (m : Mode) (tilted : Bool) (n : ℕ) → runawayCountOf m tilted n ≡ cond (isAirborneOf m && tilted) (saturatingAddOf n 1) 0
+count-is m tilted n = refl
+
 -- only a count that goes on can be enough
 enough-of : (going : Bool) (n : ℕ) → (going && runawayEnough (cond going n 0)) ≡ (going && runawayEnough n)
 enough-of true n = refl
@@ -39,14 +43,14 @@ module _ (f : FlightSupervisor) (t : Tick) where
   unfolding rowOf onOf
   breach-airborne = same→eq _ _ (breach-by f t (λ b c m n. Bool·beq (isAirborneOf n) (isAirborneOf m)) tt)
 
-  counted : runawayCounted (afterBreach f t) t ≡ runawayCountOf (f .fsm .mode) (tiltedOf t) (f .counts .«runaway_count»)
+  counted : runawayCounted (afterBreach f t) t ≡ cond (isAirborneOf (f .fsm .mode) && tiltedOf t) (saturatingAddOf (f .counts .«runaway_count») 1) 0
   unfolding runawayCounted
-  counted =
-      ap (λ (a : Bool). cond (a && tiltedOf t) (saturatingAddOf (afterBreach f t .counts .«runaway_count») 1) 0) breach-airborne
-      ∙ ap (λ (n : Counts). runawayCountOf (f .fsm .mode) (tiltedOf t) (n .«runaway_count»)) (breach-counts f t)
+  counted = count-is (afterBreach f t .fsm .mode) (tiltedOf t) (afterBreach f t .counts .«runaway_count») ∙ rw (breach-airborne, breach-counts f t)
 
   -- the ticks in a row that began airborne with tilt above 1.05
-  pub tick-count : tickOf f t .flight .counts .«runaway_count» ≡ runawayCountOf (f .fsm .mode) (tiltedOf t) (f .counts .«runaway_count»)
+  pub tick-count :
+      tickOf f t .flight .counts .«runaway_count»
+      ≡ cond (isAirborneOf (f .fsm .mode) && tiltedOf t) (saturatingAddOf (f .counts .«runaway_count») 1) 0
   tick-count = ap (λ (n : Counts). n .«runaway_count») (tick-counts f t) ∙ counted
 
   -- the runaway alone leads to Terminated

@@ -56,6 +56,13 @@ module _ (f : FlightSupervisor) (t : Tick) where
   unfolding sensedOf telemetryOf poweredOf checkedOf clearedOf
   sensed-battery = refl
 
+  -- the checks are set "from the battery state BEFORE this tick's reading"
+  pub sensed-table :
+      sensedOf f t .«check_table»
+      ≡ escTelemetryOf (updatePreflightOf (f .«check_table») (f .config) (f .battery) (clearedOf f .«rtl_latched») t) (t .«motor_rpm»)
+  unfolding sensedOf telemetryOf poweredOf checkedOf clearedOf
+  sensed-table = refl
+
   pub wind-config : afterWind f t .config ≡ f .config
   unfolding afterWind windOf afterRunaway runawayOf afterBreach breachedOf sensedOf telemetryOf poweredOf checkedOf clearedOf
   wind-config = refl
