@@ -9,3 +9,4 @@ pub mod Hold
 pub mod Setpoint
 pub mod Tick
 pub mod Calls
+pub mod Sound
