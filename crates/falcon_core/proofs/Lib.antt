@@ -5,3 +5,4 @@ pub mod Places
 pub mod Refused
 pub mod Parts
 pub mod Due
+pub mod Invariant

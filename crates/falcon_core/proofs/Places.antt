@@ -72,6 +72,11 @@ module _ {A : Type 0} where
         fit = λ i p. rw (filled-at f d n (replicate size z) i (omega arith) p) (k i p);
       }
 
+  -- no place is in use
+  pub untouched : (Held : A → Type 0) (d z : A) (size : ℕ) → Tidy Held d z size (replicate size z) 0
+  unfolding filledOf
+  untouched Held d z size = tidy Held d z size (λ i. z) 0 (omega arith) (λ i h. absurd (not-suc-le-zero h))
+
   -- and is f 0, f 1 and so on in order, then z's
   pub filled-is : (z : A) (size : ℕ) (f : ℕ → A) (n : ℕ) → n ≤ size → filledOf f n (replicate size z) ≡ firstOf f n ++ replicate (size - n) z
   filled-is z size f n h =
