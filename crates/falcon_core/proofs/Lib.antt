@@ -6,3 +6,5 @@ pub mod Refused
 pub mod Parts
 pub mod Due
 pub mod Invariant
+pub mod SoundTest
+pub mod Fits

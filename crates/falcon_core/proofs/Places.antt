@@ -72,6 +72,30 @@ module _ {A : Type 0} where
         fit = λ i p. rw (filled-at f d n (replicate size z) i (omega arith) p) (k i p);
       }
 
+  pub replicate-holds : (Held : A → Type 0) (d z : A) (size i : ℕ) → Held d → Held z → Held (getD (replicate size z) i d)
+  replicate-holds Held d z zero i p q = p
+  replicate-holds Held d z (suc size) zero p q = q
+  replicate-holds Held d z (suc size) (suc i) p q = replicate-holds Held d z size i p q
+
+  set-holds : (Held : A → Type 0) (d x : A) (l : List A) (n i : ℕ) → Held x → Held (getD l i d) → Held (getD (set l n x) i d)
+  set-holds Held d x [] n i p q = q
+  set-holds Held d x (y ∷ ys) zero zero p q = p
+  set-holds Held d x (y ∷ ys) zero (suc i) p q = q
+  set-holds Held d x (y ∷ ys) (suc n) zero p q = q
+  set-holds Held d x (y ∷ ys) (suc n) (suc i) p q = set-holds Held d x ys n i p q
+
+  -- what holds of z, of all that is filled in and of what is read past the end holds at every place
+  pub filled-holds :
+      (Held : A → Type 0) (d z : A) (size : ℕ) (f : ℕ → A) (n i : ℕ) →
+      Held d →
+      Held z →
+      ((k : ℕ) → Held (f k)) →
+      Held (getD (filledOf f n (replicate size z)) i d)
+  unfolding filledOf
+  filled-holds Held d z size f zero i p q h = replicate-holds Held d z size i p q
+  filled-holds Held d z size f (suc n) i p q h =
+      set-holds Held d (f n) (filledOf f n (replicate size z)) n i (h n) (filled-holds Held d z size f n i p q h)
+
   -- no place is in use
   pub untouched : (Held : A → Type 0) (d z : A) (size : ℕ) → Tidy Held d z size (replicate size z) 0
   unfolding filledOf
@@ -99,7 +123,8 @@ module _ {A : Type 0} where
 
 -- ---- the points of an accepted list
 
-stored-filled : (l : List Float) (n : ℕ) → storedOf l n ≡ filledOf (pointAtOf l) n (replicate maxWaypoints origin)
+-- what `storedOf` fills
+pub stored-filled : (l : List Float) (n : ℕ) → storedOf l n ≡ filledOf (pointAtOf l) n (replicate maxWaypoints origin)
 unfolding storedOf filledOf
 stored-filled l zero = refl
 stored-filled l (suc n) = rw (stored-filled l n)

@@ -12,6 +12,7 @@ use Rattle.relay_fsm.specs.Mode.{isMode}
 use Rattle.relay_preflight.specs.declared.CheckTable.{CheckTable}
 use Rattle.relay_preflight.specs.Table.{maskLimit}
 use Rattle.relay_batt.specs.declared.battery.Battery.{Battery}
+use Rattle.relay_batt.specs.Bounds.{all}
 use Rattle.relay_batt.specs.Sound.{Sound as SoundBattery, soundOf as batterySoundOf}
 use Rattle.relay_batt.specs.Fits.{Fit, FitBattery, FitReading}
 use Rattle.falcon_core.specs.declared.state.Point.{Point}
@@ -90,17 +91,17 @@ unfoldable pub tiltSoundOf : Mode → ℕ → Bool
 tiltSoundOf m n = leb n tiltRunawayCycles && (ltb n tiltRunawayCycles || isMode m Terminated)
 
 -- +0 by its bits
-abbrev zeroBits : Float → Bool
+abbrev pub zeroBits : Float → Bool
 zeroBits x = eqb (toBits binary32 x) 0
 
-abbrev zeroPoint : Point → Bool
+abbrev pub zeroPoint : Point → Bool
 zeroPoint p = zeroBits (p .x) && (zeroBits (p .y) && zeroBits (p .z))
 
-abbrev zeroZone : Zone → Bool
+abbrev pub zeroZone : Zone → Bool
 zeroZone z = zeroPoint (z .center) && zeroBits (z .radius)
 
 -- a list has `size` places, and those from `count` on pass
-abbrev unusedSound : {A : Type 0} → (A → Bool) → A → ℕ → List A → ℕ → Bool
+abbrev pub unusedSound : {A : Type 0} → (A → Bool) → A → ℕ → List A → ℕ → Bool
 unusedSound test d size l count = eqb (length l) size && eachBelow (λ i. ltb i count || test (getD l i d)) size
 
 -- there are 16 places for points and 8 for zones, and those beyond the counts are 0
@@ -110,15 +111,20 @@ unusedSoundOf m zs =
     && unusedSound zeroZone noPlace maxKeepoutZones (zs .zones) (zs .«zone_count»)
 
 -- all of them, and the battery's: latches equal to the flags shown, charge, used and resistance within their bounds, what one `update` leaves for the next finite, and all zero before a reading
+abbrev pub soundTests : FlightSupervisor → List Bool
+soundTests f =
+    checksSoundOf (f .«check_table»)
+    ∷ countsSoundOf (f .mission) (f .zones)
+    ∷ pointsSoundOf (f .config) (f .mission)
+    ∷ legSoundOf (f .mission)
+    ∷ tiltSoundOf (f .fsm .mode) (f .counts .«runaway_count»)
+    ∷ batterySoundOf (f .battery)
+    ∷ unusedSoundOf (f .mission) (f .zones)
+    ∷ []
+
+-- every test passes
 unfoldable pub soundOf : Supervisor → Bool
-soundOf s =
-    checksSoundOf (s .flight .«check_table»)
-    && countsSoundOf (s .flight .mission) (s .flight .zones)
-    && pointsSoundOf (s .flight .config) (s .flight .mission)
-    && legSoundOf (s .flight .mission)
-    && tiltSoundOf (s .flight .fsm .mode) (s .flight .counts .«runaway_count»)
-    && batterySoundOf (s .flight .battery)
-    && unusedSoundOf (s .flight .mission) (s .flight .zones)
+soundOf s = all (soundTests (s .flight))
 
 -- ---- the same as records
 
@@ -195,3 +201,8 @@ Lent (ticks t) = FitTick t
 Lent (reports failed) = Unit {0}
 Lent (commands ev level low) = Unit {0}
 Lent (points l) = (i : ℕ) → Fit (getD l i nan)
+
+-- those of a list of calls
+abbrev pub EachLent : List Request → Type 0
+EachLent [] = Unit {0}
+EachLent (r ∷ l) = Lent r × EachLent l
