@@ -1,31 +1,29 @@
 -- The floats of the state stay f32 values where those of the calls are.
 use Prim.Native.Nat.{ℕ, _+_, _*_}
-use mathlib.Core.Bool.{Bool, true, false, cond, _||_}
+use mathlib.Core.Bool.{_||_}
 use mathlib.Core.List.{List, [], _∷_}
-use mathlib.Core.Path.{_≡_, sym, subst}
-use lib.ListN.{getD, replicate}
-use lib.Ieee.{Float, nan, binary32, add, sub, mul, lt, le}
+use mathlib.Core.Path.{sym, subst}
+use lib.ListN.{getD}
+use lib.Ieee.{Float, nan, binary32, add, lt, le}
 use lib.Ieee.Bits.{ofBits-fits}
 use lib.Ieee.Fits.{cond-fits, nan-fits, add-fits, sub-fits}
 use Rattle.relay_fsm.specs.declared.Mode.{Mode}
 use Rattle.relay_batt.specs.Config.{forOpeningVoltsOf}
 use Rattle.relay_batt.specs.Fits.{Fit}
 use Rattle.relay_batt.proofs.Fits.{fits-update, fits-new, fits-opening}
-use Rattle.falcon_core.specs.declared.state.Point.{Point}
-use Rattle.falcon_core.specs.declared.state.Zone.{Zone}
 use Rattle.falcon_core.specs.declared.state.Hold.{Hold}
 use Rattle.falcon_core.specs.declared.state.Opening.{Opening}
 use Rattle.falcon_core.specs.declared.state.Tick.{Tick}
 use Rattle.falcon_core.specs.declared.state.FlightSupervisor.{FlightSupervisor}
 use Rattle.falcon_core.specs.declared.state.Supervisor.{Supervisor}
 use Rattle.falcon_core.specs.State.{zerof, origin, noZone, nowhere, maxWaypoints, maxKeepoutZones, openedOf, unopened}
-use Rattle.falcon_core.specs.Mission.{pointAtOf, triedOf, storedOf, loadedOf}
+use Rattle.falcon_core.specs.Mission.{pointAtOf, triedOf, loadedOf}
 use Rattle.falcon_core.specs.Zones.{noPlace}
 use Rattle.falcon_core.specs.Failsafe.{clearedOf, breachedOf, runawayOf, windOf}
 use Rattle.falcon_core.specs.Milestone.{milestoneOf}
 use Rattle.falcon_core.specs.Hold.{holdsOf, holdRestMs, holdRestS, holdBrakeMaxS, horizSpeedOf, brakePointOf, enteredOf, restOf, brakedOf, leftOf, keptOf, heldOf}
 use Rattle.falcon_core.specs.Tick.{checkedOf, poweredOf, telemetryOf, sensedOf, afterBreach, afterRunaway, afterWind, afterMilestone, holdingOf, tickOf}
-use Rattle.falcon_core.specs.Calls.{Request, opens, ticks, reports, commands, points, commandedBy, refusalOf, afterOf, stepOf}
+use Rattle.falcon_core.specs.Calls.{Request, opens, ticks, reports, commands, points, commandedBy, afterOf, stepOf}
 use Rattle.falcon_core.specs.Sound.{runOf, FitPoint, FitZone, FitHold, FitFlight, FitOpening, FitTick, Lent, EachLent}
 use Rattle.falcon_core.proofs.Refused.{step-keeps}
 use Rattle.falcon_core.proofs.Parts.{cond-keeps, reported-keeps, tick-flight}
@@ -114,11 +112,12 @@ pub fits-unopened : FitFlight (unopened .flight)
 unfolding unopened
 fits-unopened = opened-fits _ (record { home = origin-fits; fence = zero-fits; cruise = zero-fits; volts = zero-fits })
 
-run-fits : (s : Supervisor) (l : List Request) → EachLent l → FitFlight (s .flight) → FitFlight (runOf s l .flight)
+-- a list of calls whose floats are f32 values
+pub run-fits : (s : Supervisor) (l : List Request) → EachLent l → FitFlight (s .flight) → FitFlight (runOf s l .flight)
 unfolding runOf
 run-fits s [] h k = k
 run-fits s (r ∷ l) h k = run-fits (stepOf s r .supervisor) l (h .1) (fits-step s r (h .0) k)
 
--- every list of calls whose floats are f32 values
+-- the same from the state with no opening
 pub fits-run : (l : List Request) → EachLent l → FitFlight (runOf unopened l .flight)
 fits-run l h = run-fits unopened l h fits-unopened

@@ -1,17 +1,18 @@
 -- Every list of calls, refused ones among them, leads to sound states. Nothing is asked of the calls.
-use Prim.Native.Nat.{ℕ, _+_, _-_, _^_, _≤_, _<_, min}
+use Prim.Native.Nat.{ℕ, _+_, _-_, _≤_, _<_, min}
 use native.Mathlib.Decide.{decLt}
 use native.Mathlib.Omega.{arith}
-use borrow.Author.Tests.{not-false, ltb-true, leb-false, le-leb}
-use mathlib.Core.Bool.{Bool, true, false, cond, not, _&&_, _||_}
+use borrow.Author.Tests.{not-false, ltb-true, leb-false, lt-ltb, le-leb, ne-eqb}
+use mathlib.Core.Bool.{Bool, true, false, cond, _&&_, _||_}
 use mathlib.Core.Option.{Option, none, some}
 use mathlib.Core.List.{List}
 use mathlib.Core.Path.{_≡_, refl, sym, ap, _∙_, subst}
-use lib.Dec.{T, ltb, leb, lit<, lit≤}
+use lib.Dec.{T, eqb, ltb, leb, lit<, lit≤}
+use lib.ListN.{getD}
 use Rattle.relay_fsm.specs.declared.Mode.{Mode}
-use Rattle.relay_fsm.specs.declared.Mode.the-variants.{Terminated, Mission as InMission}
+use Rattle.relay_fsm.specs.declared.Mode.the-variants.{Mission as InMission}
 use Rattle.relay_fsm.specs.declared.Event.{Event}
-use Rattle.relay_fsm.specs.declared.Event.the-variants.{Failsafe, Terminate}
+use Rattle.relay_fsm.specs.declared.Event.the-variants.{Failsafe}
 use Rattle.relay_fsm.specs.declared.Gates.{Gates}
 use Rattle.relay_fsm.specs.Mode.{isMode, isAirborneOf}
 use Rattle.relay_fsm.specs.Fsm.{onOf}
@@ -34,14 +35,14 @@ use Rattle.falcon_core.specs.declared.state.Tick.{Tick}
 use Rattle.falcon_core.specs.declared.state.FlightSupervisor.{FlightSupervisor}
 use Rattle.falcon_core.specs.declared.state.Supervisor.{Supervisor}
 use Rattle.falcon_core.specs.State.{origin, noZone, nowhere, maxWaypoints, maxKeepoutZones, withMode, withTable, openedOf, unopened}
-use Rattle.falcon_core.specs.Mission.{waypointAdmissibleOf, triedOf, allAdmissibleOf}
+use Rattle.falcon_core.specs.Mission.{waypointAdmissibleOf, triedOf, allAdmissibleOf, waypointAtOf, currentWaypointOf}
 use Rattle.falcon_core.specs.Zones.{noPlace}
 use Rattle.falcon_core.specs.Preflight.{navRowsOf, integrityRowsOf, readinessRowsOf, updatePreflightOf, escTelemetryOf}
 use Rattle.falcon_core.specs.Failsafe.{modeAfter, clearedOf, breachGives, breachedOf, tiltedOf, tiltRunawayCycles, runawayCountOf, runawayEnough, runawayEvent, runawayCounted, runawayGives, runawayOf, windGives, windOf}
 use Rattle.falcon_core.specs.Milestone.{arrivedOf, milestoneGives, legOf, milestoneOf}
 use Rattle.falcon_core.specs.Tick.{checkedOf, poweredOf, telemetryOf, sensedOf, afterBreach, afterRunaway, afterWind, afterMilestone, holdingOf, tickOf}
 use Rattle.falcon_core.specs.Calls.{Request, opens, ticks, reports, commands, points, commandedBy, refusalOf, afterOf, stepOf}
-use Rattle.falcon_core.specs.Sound.{runOf, Tidy, SoundChecks, SoundMission, SoundZones, SoundTilt, SoundFlight}
+use Rattle.falcon_core.specs.Sound.{runOf, SoundChecks, SoundMission, SoundTilt, SoundFlight}
 use Rattle.falcon_core.proofs.Refused.{accepted-passed, step-keeps, run-keeps}
 use Rattle.falcon_core.proofs.Parts.{cond-keeps, reported-keeps, tick-flight}
 use Rattle.falcon_core.proofs.Places.{untouched, sound-loaded}
@@ -95,8 +96,8 @@ airborne-below m n a k =
     elim (decLt n tiltRunawayCycles) [
       | yes p ↦ p
       | no q ↦
-        let e : n ≡ tiltRunawayCycles = omega (arith, k .at-most) in
-        absurd (subst T (sym (sym (ap isAirborneOf (k .ended e)) ∙ a)) tt)
+          let e : n ≡ tiltRunawayCycles = omega (arith, k .at-most) in
+          absurd (subst T (sym (sym (ap isAirborneOf (k .ended e)) ∙ a)) tt)
     ]
 
 -- the count is 50 only where the tick gives Terminate
@@ -233,6 +234,26 @@ pub unopened-sound : SoundFlight (unopened .flight)
 unfolding unopened
 unopened-sound = opened-sound _ (record { required-below = lit< tt; passed-below = lit< tt })
 
+-- so does every list of calls
+pub run-sound : (s : Supervisor) (l : List Request) → SoundFlight (s .flight) → SoundFlight (runOf s l .flight)
+run-sound s l k = run-keeps (λ (u : Supervisor). SoundFlight (u .flight)) after-sound s l k
+
 -- every list of calls leads to a sound state
-pub run-sound : (l : List Request) → SoundFlight (runOf unopened l .flight)
-run-sound l = run-keeps (λ (u : Supervisor). SoundFlight (u .flight)) after-sound unopened l unopened-sound
+pub reachable-sound : (l : List Request) → SoundFlight (runOf unopened l .flight)
+reachable-sound l = run-sound unopened l unopened-sound
+
+-- "Every point in use is admissible."
+pub points-admissible :
+    (l : List Request) (i : ℕ) →
+    i < runOf unopened l .flight .mission .«wp_count» →
+    T (waypointAdmissibleOf (runOf unopened l .flight .config) (getD (runOf unopened l .flight .mission .waypoints) i nowhere))
+points-admissible l i h = reachable-sound l .mission .places .fit i h
+
+-- the point flown to is the active leg's, and admissible, where there are points
+pub current-admissible : (c : Config) (m : Mission) → SoundMission c m → 0 < m .«wp_count» → T (waypointAdmissibleOf c (currentWaypointOf c m))
+unfolding currentWaypointOf waypointAtOf
+current-admissible c m k h =
+    let i = min (m .«wp_index») (m .«wp_count» - 1) in
+    let some-points : eqb (m .«wp_count») 0 ≡ false = ne-eqb (m .«wp_count») 0 (λ e. omega arith) in
+    let place : ltb i maxWaypoints ≡ true = lt-ltb i maxWaypoints (omega (arith, k .places .few)) in
+    rw (some-points, place) (k .places .fit i (omega arith))

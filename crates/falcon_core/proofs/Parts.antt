@@ -1,19 +1,23 @@
 -- What a tick leaves of each part of the state, and which calls leave the configuration.
 use mathlib.Core.Bool.{Bool, true, false, cond, not}
 use mathlib.Core.Path.{_≡_, refl, ap, subst}
+use mathlib.Core.List.{List}
 use lib.Dec.{T}
+use lib.Ieee.{Float}
 use Rattle.relay_fsm.specs.declared.Event.the-variants.{Failsafe}
 use Rattle.relay_fsm.specs.Fsm.{onOf}
 use Rattle.relay_batt.specs.Battery.{updateOf}
 use Rattle.falcon_core.specs.declared.state.Tick.{Tick}
 use Rattle.falcon_core.specs.declared.state.FlightSupervisor.{FlightSupervisor}
 use Rattle.falcon_core.specs.declared.state.Supervisor.{Supervisor}
-use Rattle.falcon_core.specs.State.{withMode, withMotors}
+use Rattle.falcon_core.specs.State.{withMode, withMission, withMotors}
+use Rattle.falcon_core.specs.Mission.{loadedOf}
 use Rattle.falcon_core.specs.Setpoint.{motorsOffOf}
 use Rattle.falcon_core.specs.Failsafe.{clearedOf, breachedOf, withoutPosition, motorLost, runawayOf, windOf, reportedOf}
 use Rattle.falcon_core.specs.Milestone.{milestoneOf}
 use Rattle.falcon_core.specs.Tick.{checkedOf, poweredOf, telemetryOf, sensedOf, afterBreach, afterRunaway, afterWind, afterMilestone, holdingOf, answeredOf, tickOf}
-use Rattle.falcon_core.specs.Calls.{Request, opens, ticks, reports, commands, points, isOpening, dueAfter, commandedBy, afterOf, stepOf}
+use Rattle.falcon_core.specs.Calls.{Request, opens, ticks, reports, commands, points, isOpening, dueAfter, commandedBy, refusalOf, afterOf, acceptedOf, stepOf}
+use Rattle.falcon_core.proofs.Answers.{step-accepted}
 use Rattle.falcon_core.proofs.Refused.{step-keeps}
 
 module _ (f : FlightSupervisor) (t : Tick) where
@@ -70,3 +74,8 @@ after-config s (points l) h = refl
 -- a configuration changes only by an opening
 pub config-kept : (s : Supervisor) (r : Request) → isOpening r ≡ false → stepOf s r .supervisor .flight .config ≡ s .flight .config
 config-kept s r h = step-keeps s r (λ (u : Supervisor). u .flight .config ≡ s .flight .config) refl (λ e. after-config s r h)
+
+-- an accepted list of points replaces the mission and nothing else of the flight
+pub points-flight : (s : Supervisor) (l : List Float) → refusalOf s (points l) ≡ 0 → stepOf s (points l) .supervisor .flight ≡ withMission (s .flight) (loadedOf l)
+unfolding afterOf acceptedOf
+points-flight s l e = rw (step-accepted s (points l) e)

@@ -1,9 +1,8 @@
 -- The places of an array: filling the first of them, what an accepted list of points leaves, and the tests of places.
-use Prim.Native.Nat.{ℕ, zero, suc, _+_, _-_, _*_, _/_, _≤_, _<_, min}
+use Prim.Native.Nat.{ℕ, zero, suc, _+_, _-_, _/_, _≤_, _<_, min}
 use native.Mathlib.Nat.{not-suc-le-zero}
 use native.Mathlib.Decide.{decLt}
 use native.Mathlib.Omega.{arith}
-use mathlib.Core.Bool.{Bool, true, false, _&&_}
 use mathlib.Core.Path.{_≡_, refl, sym, ap, _∙_, subst}
 use mathlib.Core.List.{List, [], _∷_, _++_}
 use lib.Dec.{T}
@@ -12,12 +11,15 @@ use lib.Seq.{getD-append-add, getD-at, getD-set-same, getD-set-other, ext-getD}
 use lib.Ieee.{Float}
 use lib.Ieee.Fits.{and-l, and-r}
 use Rattle.falcon_core.specs.declared.state.Config.{Config}
-use Rattle.falcon_core.specs.declared.state.Mission.{Mission}
 use Rattle.falcon_core.specs.declared.state.Point.{Point}
+use Rattle.falcon_core.specs.declared.state.FlightSupervisor.{FlightSupervisor}
+use Rattle.falcon_core.specs.declared.state.Supervisor.{Supervisor}
 use Rattle.falcon_core.specs.State.{maxWaypoints, origin, nowhere}
 use Rattle.falcon_core.specs.Mission.{waypointAdmissibleOf, pointAtOf, triedOf, allAdmissibleOf, storedOf, loadedOf}
-use Rattle.falcon_core.specs.Sound.{firstOf, filledOf, Tidy, eachBelow, SoundMission}
+use Rattle.falcon_core.specs.Calls.{points, refusalOf, stepOf}
+use Rattle.falcon_core.specs.Sound.{firstOf, filledOf, Tidy, SoundMission}
 use Rattle.falcon_core.proofs.Waypoints.{tried-places}
+use Rattle.falcon_core.proofs.Parts.{points-flight}
 
 module _ {A : Type 0} where
   pub length-first : (f : ℕ → A) (n : ℕ) → length (firstOf f n) ≡ n
@@ -108,18 +110,18 @@ module _ {A : Type 0} where
       let rest = replicate (size - n) z in
       let long : length zs ≡ size = length-replicate size z in
       let both : length (firstOf f n ++ rest) ≡ n + (size - n) =
-          length-append (firstOf f n) rest ∙ simp (length-first f n, length-replicate (size - n) z) in
+      length-append (firstOf f n) rest ∙ simp (length-first f n, length-replicate (size - n) z) in
       ext-getD z (filledOf f n zs) (firstOf f n ++ rest) (simp (length-filled f n zs, long, both) (omega arith))
       (λ i p.
-        let q : i < size = omega (arith, length-filled f n zs) in
-        elim (decLt i n) [
-          | yes b ↦ filled-at f z n zs i (omega arith) b ∙ sym (List·getD-append (firstOf f n) rest z i (rw (length-first f n) b) ∙ first-at f z n i b)
-          | no b ↦
+      let q : i < size = omega (arith, length-filled f n zs) in
+      elim (decLt i n) [
+        | yes b ↦ filled-at f z n zs i (omega arith) b ∙ sym (List·getD-append (firstOf f n) rest z i (rw (length-first f n) b) ∙ first-at f z n i b)
+        | no b ↦
             let e : i ≡ length (firstOf f n) + (i - n) = omega (arith, length-first f n) in
             filled-beyond f z n zs i (omega arith)
             ∙ getD-replicate size i z z q
             ∙ sym (ap (λ (k : ℕ). getD (firstOf f n ++ rest) k z) e ∙ getD-append-add (firstOf f n) rest (i - n) z ∙ getD-replicate (size - n) (i - n) z z (omega arith))
-        ])
+      ])
 
 -- ---- the points of an accepted list
 
@@ -137,13 +139,25 @@ stored-is l n h = stored-filled l n ∙ filled-is origin maxWaypoints (pointAtOf
 pub loaded-is :
     (l : List Float) →
     loadedOf l ≡
-      record {
-        waypoints = firstOf (pointAtOf l) (min (length l / 3) maxWaypoints) ++ replicate (maxWaypoints - min (length l / 3) maxWaypoints) origin;
-        «wp_count» = min (length l / 3) maxWaypoints;
-        «wp_index» = 0;
-      }
+    record {
+      waypoints = firstOf (pointAtOf l) (min (length l / 3) maxWaypoints) ++ replicate (maxWaypoints - min (length l / 3) maxWaypoints) origin;
+      «wp_count» = min (length l / 3) maxWaypoints;
+      «wp_index» = 0;
+    }
 unfolding loadedOf triedOf
 loaded-is l = rw (stored-is l (min (length l / 3) maxWaypoints) (tried-places l))
+
+-- the mission after an accepted list
+pub points-loaded :
+    (s : Supervisor) (l : List Float) →
+    refusalOf s (points l) ≡ 0 →
+    stepOf s (points l) .supervisor .flight .mission ≡
+    record {
+      waypoints = firstOf (pointAtOf l) (min (length l / 3) maxWaypoints) ++ replicate (maxWaypoints - min (length l / 3) maxWaypoints) origin;
+      «wp_count» = min (length l / 3) maxWaypoints;
+      «wp_index» = 0;
+    }
+points-loaded s l e = ap (λ (f : FlightSupervisor). f .mission) (points-flight s l e) ∙ loaded-is l
 
 -- all tried points are admissible: each of them is
 pub all-admissible : (c : Config) (l : List Float) (n : ℕ) → T (allAdmissibleOf c l n) → (i : ℕ) → i < n → T (waypointAdmissibleOf c (pointAtOf l i))
@@ -153,8 +167,8 @@ all-admissible c l (suc n) t i h =
     elim (decLt i n) [
       | yes p ↦ all-admissible c l n (and-l (allAdmissibleOf c l n) (waypointAdmissibleOf c (pointAtOf l n)) t) i p
       | no q ↦
-        let e : n ≡ i = omega arith in
-        rw (← e) (and-r (allAdmissibleOf c l n) (waypointAdmissibleOf c (pointAtOf l n)) t)
+          let e : n ≡ i = omega arith in
+          rw (← e) (and-r (allAdmissibleOf c l n) (waypointAdmissibleOf c (pointAtOf l n)) t)
     ]
 
 -- the mission of an accepted list is sound
@@ -162,10 +176,10 @@ pub sound-loaded : (c : Config) (l : List Float) → T (allAdmissibleOf c l (tri
 unfolding loadedOf
 sound-loaded c l t = record {
   places =
-    subst
-    (λ (ps : List Point). Tidy (λ (p : Point). T (waypointAdmissibleOf c p)) nowhere origin maxWaypoints ps (triedOf l))
-    (sym (stored-filled l (triedOf l)))
-    (tidy (λ (p : Point). T (waypointAdmissibleOf c p)) nowhere origin maxWaypoints (pointAtOf l) (triedOf l) (tried-places l)
-    (all-admissible c l (triedOf l) t));
+      subst
+      (λ (ps : List Point). Tidy (λ (p : Point). T (waypointAdmissibleOf c p)) nowhere origin maxWaypoints ps (triedOf l))
+      (sym (stored-filled l (triedOf l)))
+      (tidy (λ (p : Point). T (waypointAdmissibleOf c p)) nowhere origin maxWaypoints (pointAtOf l) (triedOf l) (tried-places l)
+      (all-admissible c l (triedOf l) t));
   leg = omega arith;
 }

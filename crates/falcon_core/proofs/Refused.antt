@@ -8,7 +8,6 @@ use Rattle.relay_preflight.specs.Table.{outstandingOf}
 use Rattle.relay_preflight.specs.Verdict.{firstBlockerOf}
 use Rattle.falcon_core.specs.declared.state.Supervisor.{Supervisor}
 use Rattle.falcon_core.specs.declared.calls.Output.the-variants.{Nothing}
-use Rattle.falcon_core.specs.declared.calls.Answer.{Answer}
 use Rattle.falcon_core.specs.declared.calls.Answered.{Answered}
 use Rattle.falcon_core.specs.Calls.{Request, miscounted, masksTooLarge, isOpening, isReport, pointRefused, refusalOf, afterOf, answerOf, refusedOf, acceptedOf, stepOf}
 use Rattle.falcon_core.specs.Sound.{runOf}
@@ -83,3 +82,8 @@ accepted-passed s r e =
     let f = unfit (isReport r && not (s .«report_due»)) 6 _ (d .1) in
     let g = unfit (pointRefused s r) 7 _ (f .1) in
     record { counted = a .0; in-range = b .0; after-opening = c .0; none-due = d .0; due = f .0; admissible = g .0 }
+
+-- "a call that no refusal fits is accepted"
+pub passed-accepted : (s : Supervisor) (r : Request) → Passed s r → refusalOf s r ≡ 0
+unfolding refusalOf
+passed-accepted s r p = rw (p .counted, p .in-range, p .after-opening, p .none-due, p .due, p .admissible)

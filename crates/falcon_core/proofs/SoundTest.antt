@@ -1,15 +1,15 @@
 -- `soundOf` is true of every state that a list of calls leads to, and of f32 values it says no less than the record.
-use Prim.Native.Nat.{ℕ, zero, suc, _-_, _≤_, _<_}
+use Prim.Native.Nat.{ℕ, zero, suc, _≤_, _<_}
 use native.Mathlib.Nat.{not-suc-le-zero}
 use native.Mathlib.Decide.{decLt}
 use native.Mathlib.Omega.{arith}
 use mathlib.Core.Bool.{Bool, true, false, _&&_, _||_}
 use mathlib.Core.List.{List, [], _∷_}
 use mathlib.Core.Logic.{inl, inr}
-use mathlib.Core.Path.{_≡_, refl, sym, ap, _∙_}
-use lib.Dec.{T, eqb, ltb, leb, eqb→eq, eqb-refl, ltb→lt, lt→ltb, leb→le, le→leb}
+use mathlib.Core.Path.{_≡_, sym, ap, _∙_}
+use lib.Dec.{T, eqb, ltb, leb, eqb→eq, ltb→lt, lt→ltb, leb→le, le→leb}
 use lib.ListN.{length, getD}
-use lib.Ieee.{Float, binary32, ofBits, toBits, fits}
+use lib.Ieee.{Float, binary32, ofBits, toBits}
 use lib.Ieee.Bits.{ofBits-toBits, is-true}
 use lib.Ieee.Fits.{and-i, and-l, and-r, eq→eqb}
 use Rattle.relay_fsm.specs.declared.Mode.{Mode}
@@ -34,7 +34,7 @@ use Rattle.falcon_core.specs.Zones.{noPlace}
 use Rattle.falcon_core.specs.Failsafe.{tiltRunawayCycles}
 use Rattle.falcon_core.specs.Calls.{Request, stepOf}
 use Rattle.falcon_core.specs.Sound.{runOf, Tidy, eachBelow, checksSoundOf, countsSoundOf, pointsSoundOf, legSoundOf, tiltSoundOf, zeroBits, zeroPoint, zeroZone, unusedSound, unusedSoundOf, soundTests, soundOf, SoundChecks, SoundMission, SoundZones, SoundTilt, SoundFlight, FitPoint, FitZone, FitFlight}
-use Rattle.falcon_core.proofs.Invariant.{step-sound, unopened-sound, run-sound}
+use Rattle.falcon_core.proofs.Invariant.{step-sound, unopened-sound, run-sound, reachable-sound}
 
 -- ---- tests of every number and of every entry
 
@@ -73,10 +73,10 @@ module _ {A : Type 0} (Held : A → Type 0) (test : A → Bool) (d z : A) (size 
       and-i (eqb (length l) size) _ (eq→eqb (k .long))
       (each-below (λ i. ltb i count || test (getD l i d)) size
       (λ i p.
-        elim (decLt i count) [
-          | yes q ↦ or-first (ltb i count) (test (getD l i d)) (lt→ltb i count q)
-          | no q ↦ or-i (ltb i count) (test (getD l i d)) (rw (k .beyond i (omega arith) p) h)
-        ]))
+      elim (decLt i count) [
+        | yes q ↦ or-first (ltb i count) (test (getD l i d)) (lt→ltb i count q)
+        | no q ↦ or-i (ltb i count) (test (getD l i d)) (rw (k .beyond i (omega arith) p) h)
+      ]))
 
   unused-back :
       ((i : ℕ) → T (test (getD l i d)) → getD l i d ≡ z) →
@@ -88,10 +88,10 @@ module _ {A : Type 0} (Held : A → Type 0) (test : A → Bool) (d z : A) (size 
     long = eqb→eq (length l) size (and-l (eqb (length l) size) _ t);
     few = few;
     beyond = λ i p q.
-      elim (either (ltb i count) (test (getD l i d)) (below-each (λ i. ltb i count || test (getD l i d)) size (and-r (eqb (length l) size) _ t) i q)) [
-        | inl u ↦ absurd (omega (arith, ltb→lt i count u))
-        | inr u ↦ back i u
-      ];
+        elim (either (ltb i count) (test (getD l i d)) (below-each (λ i. ltb i count || test (getD l i d)) size (and-r (eqb (length l) size) _ t) i q)) [
+          | inl u ↦ absurd (omega (arith, ltb→lt i count u))
+          | inr u ↦ back i u
+        ];
     fit = fit;
   }
 
@@ -187,10 +187,10 @@ tilt-back m n t =
     record {
       at-most = leb→le n tiltRunawayCycles (and-l (leb n tiltRunawayCycles) (below || isMode m Terminated) t);
       ended = λ q.
-        elim (either below (isMode m Terminated) (and-r (leb n tiltRunawayCycles) (below || isMode m Terminated) t)) [
-          | inl u ↦ absurd (omega (arith, ltb→lt n tiltRunawayCycles u))
-          | inr u ↦ isMode→eq m Terminated u
-        ];
+          elim (either below (isMode m Terminated) (and-r (leb n tiltRunawayCycles) (below || isMode m Terminated) t)) [
+            | inl u ↦ absurd (omega (arith, ltb→lt n tiltRunawayCycles u))
+            | inr u ↦ isMode→eq m Terminated u
+          ];
     }
 
 -- what passes every test is a sound state
@@ -208,19 +208,19 @@ test-sound s f t =
       checks = checks-back (s .flight .«check_table») (test 0);
       mission = record {
         places =
-          unused-back _ zeroPoint nowhere origin maxWaypoints (m .waypoints) (m .«wp_count»)
-          (λ i. origin-back _ (f .waypoints i))
-          (leb→le _ _ (and-l few few-zones (test 1)))
-          (below-each (λ i. waypointAdmissibleOf (s .flight .config) (getD (m .waypoints) i nowhere)) (m .«wp_count») (test 2))
-          (and-l unused unused-zones (test 6));
+            unused-back _ zeroPoint nowhere origin maxWaypoints (m .waypoints) (m .«wp_count»)
+            (λ i. origin-back _ (f .waypoints i))
+            (leb→le _ _ (and-l few few-zones (test 1)))
+            (below-each (λ i. waypointAdmissibleOf (s .flight .config) (getD (m .waypoints) i nowhere)) (m .«wp_count») (test 2))
+            (and-l unused unused-zones (test 6));
         leg = leb→le _ _ (test 3);
       };
       zones =
-        unused-back _ zeroZone noPlace noZone maxKeepoutZones (zs .zones) (zs .«zone_count»)
-        (λ i. no-zone-back _ (f .zones i))
-        (leb→le _ _ (and-r few few-zones (test 1)))
-        (λ i p. tt)
-        (and-r unused unused-zones (test 6));
+          unused-back _ zeroZone noPlace noZone maxKeepoutZones (zs .zones) (zs .«zone_count»)
+          (λ i. no-zone-back _ (f .zones i))
+          (leb→le _ _ (and-r few few-zones (test 1)))
+          (λ i p. tt)
+          (and-r unused unused-zones (test 6));
       tilt = tilt-back (s .flight .fsm .mode) (s .flight .counts .«runaway_count») (test 4);
       battery = battery-back (s .flight .battery) (f .battery) (is-true (batterySoundOf (s .flight .battery)) (test 5));
     }
@@ -236,4 +236,8 @@ sound-step s r f t = sound-test (stepOf s r .supervisor) (step-sound s r (test-s
 
 -- every list of calls, refused ones among them, with no word on the floats of the calls
 pub sound-run : (l : List Request) → T (soundOf (runOf unopened l))
-sound-run l = sound-test (runOf unopened l) (run-sound l)
+sound-run l = sound-test (runOf unopened l) (reachable-sound l)
+
+-- every list of calls from any sound state of f32 values
+pub sound-run-from : (s : Supervisor) (l : List Request) → FitFlight (s .flight) → T (soundOf s) → T (soundOf (runOf s l))
+sound-run-from s l f t = sound-test (runOf s l) (run-sound s l (test-sound s f t))

@@ -1,7 +1,7 @@
 -- What is true of every state that a list of calls leads to: as one test of the state, made of named tests, and as records.
 use Prim.Native.Nat.{ℕ, zero, suc, _-_, _≤_, _<_}
 use mathlib.Core.Path.{_≡_}
-use mathlib.Core.Bool.{Bool, true, false, cond, _&&_, _||_}
+use mathlib.Core.Bool.{Bool, true, false, _&&_, _||_}
 use mathlib.Core.List.{List, [], _∷_, _++_}
 use lib.Dec.{T, eqb, ltb, leb}
 use lib.ListN.{length, getD, set}
@@ -11,7 +11,6 @@ use Rattle.relay_fsm.specs.declared.Mode.the-variants.{Terminated}
 use Rattle.relay_fsm.specs.Mode.{isMode}
 use Rattle.relay_preflight.specs.declared.CheckTable.{CheckTable}
 use Rattle.relay_preflight.specs.Table.{maskLimit}
-use Rattle.relay_batt.specs.declared.battery.Battery.{Battery}
 use Rattle.relay_batt.specs.Bounds.{all}
 use Rattle.relay_batt.specs.Sound.{Sound as SoundBattery, soundOf as batterySoundOf}
 use Rattle.relay_batt.specs.Fits.{Fit, FitBattery, FitReading}
@@ -56,7 +55,7 @@ module _ {A : Type 0} where
   filledOf f zero l = l
   filledOf f (suc n) l = set (filledOf f n l) n (f n)
 
-  -- `size` places; what is in use is held, every other place has z; d is what is read past the end
+  -- `size` places, at most so many in use: what is in use is `Held`, every other place has z; d is what is read past the end
   pub record Tidy (Held : A → Type 0) (d z : A) (size : ℕ) (l : List A) (count : ℕ) : Type 0 where
     pub long : length l ≡ size
     pub few : count ≤ size
@@ -94,9 +93,11 @@ tiltSoundOf m n = leb n tiltRunawayCycles && (ltb n tiltRunawayCycles || isMode 
 abbrev pub zeroBits : Float → Bool
 zeroBits x = eqb (toBits binary32 x) 0
 
+-- a point of zeros
 abbrev pub zeroPoint : Point → Bool
 zeroPoint p = zeroBits (p .x) && (zeroBits (p .y) && zeroBits (p .z))
 
+-- a zone of zeros
 abbrev pub zeroZone : Zone → Bool
 zeroZone z = zeroPoint (z .center) && zeroBits (z .radius)
 
@@ -128,23 +129,26 @@ soundOf s = all (soundTests (s .flight))
 
 -- ---- the same as records
 
+-- `checksSoundOf`
 pub record SoundChecks (k : CheckTable) : Type 0 where
   pub required-below : k .required < maskLimit
   pub passed-below : k .passed < maskLimit
 
--- points are admissible by the configuration under which they were accepted
+-- the points in use are admissible by the configuration, the other places are the origin, and the leg is below the count
 pub record SoundMission (c : Config) (m : Mission) : Type 0 where
   pub places : Tidy (λ p. T (waypointAdmissibleOf c p)) nowhere origin maxWaypoints (m .waypoints) (m .«wp_count»)
   pub leg : m .«wp_index» ≤ m .«wp_count» - 1
 
--- zones are untested
+-- the zones in use are untested, the other places are empty
 abbrev pub SoundZones : Zones → Type 0
 SoundZones zs = Tidy (λ z. Unit {0}) noPlace noZone maxKeepoutZones (zs .zones) (zs .«zone_count»)
 
+-- `tiltSoundOf`
 pub record SoundTilt (m : Mode) (n : ℕ) : Type 0 where
   pub at-most : n ≤ tiltRunawayCycles
   pub ended : n ≡ tiltRunawayCycles → m ≡ Terminated
 
+-- every part of the flight
 pub record SoundFlight (f : FlightSupervisor) : Type 0 where
   pub checks : SoundChecks (f .«check_table»)
   pub mission : SoundMission (f .config) (f .mission)
@@ -154,21 +158,25 @@ pub record SoundFlight (f : FlightSupervisor) : Type 0 where
 
 -- ---- the floats are f32 values: in definitions a float may be one that no f32 holds
 
+-- those of a point
 pub record FitPoint (p : Point) : Type 0 where
   pub x : Fit (p .x)
   pub y : Fit (p .y)
   pub z : Fit (p .z)
 
+-- those of a zone
 pub record FitZone (z : Zone) : Type 0 where
   pub center : FitPoint (z .center)
   pub radius : Fit (z .radius)
 
+-- those of a configuration
 pub record FitConfig (c : Config) : Type 0 where
   pub home : FitPoint (c .home)
   pub fence : Fit (c .«fence_radius»)
   pub cruise : Fit (c .«cruise_alt»)
   pub volts : Fit (c .«low_batt_v»)
 
+-- those of a hold
 pub record FitHold (h : Hold) : Type 0 where
   pub x : Fit (h .«hold_xy» .x)
   pub y : Fit (h .«hold_xy» .y)
@@ -183,18 +191,19 @@ pub record FitFlight (f : FlightSupervisor) : Type 0 where
   pub zones : (i : ℕ) → FitZone (getD (f .zones .zones) i noPlace)
   pub hold : FitHold (f .hold)
 
+-- those of an opening
 pub record FitOpening (o : Opening) : Type 0 where
   pub home : FitPoint (o .home)
   pub fence : Fit (o .«fence_radius»)
   pub cruise : Fit (o .«cruise_alt»)
   pub volts : Fit (o .«low_batt_v»)
 
--- those of a tick that the state keeps or adds up
+-- those of a tick that the state keeps
 pub record FitTick (t : Tick) : Type 0 where
   pub p : FitPoint (t .p)
   pub reading : FitReading (t .reading)
 
--- those of a call: every lent f32 is one
+-- those of a call that the state keeps: every lent f32 is one
 abbrev pub Lent : Request → Type 0
 Lent (opens o) = FitOpening o
 Lent (ticks t) = FitTick t
