@@ -8,3 +8,4 @@ pub mod Due
 pub mod Invariant
 pub mod SoundTest
 pub mod Fits
+pub mod Battery
