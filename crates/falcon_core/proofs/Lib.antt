@@ -8,3 +8,11 @@ pub mod Rank
 pub mod Phase
 pub mod Runaway
 pub mod HoldPoint
+pub mod Places
+pub mod Refused
+pub mod Parts
+pub mod Due
+pub mod Invariant
+pub mod SoundTest
+pub mod Fits
+pub mod Battery

@@ -10,3 +10,4 @@ pub mod Setpoint
 pub mod Tick
 pub mod Calls
 pub mod Land
+pub mod Sound

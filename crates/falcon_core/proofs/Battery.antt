@@ -1,0 +1,58 @@
+-- The battery of every state that calls lead to: its configuration is the opening's, and it is within document 01's bounds.
+use mathlib.Core.Path.{_≡_, refl, _∙_, ap}
+use mathlib.Core.List.{List}
+use lib.Ieee.{Float}
+use Rattle.relay_batt.specs.declared.config.BattConfig.{BattConfig}
+use Rattle.relay_batt.specs.declared.battery.Battery.{Battery}
+use Rattle.relay_batt.specs.Bounds.{Within}
+use Rattle.relay_batt.specs.Config.{capacityOf, capacityMah, forOpeningVoltsOf}
+use Rattle.relay_batt.specs.Sound.{Sound as SoundBattery, InBounds}
+use Rattle.relay_batt.proofs.Sound.{update-cfg, opened-cfg, capacity-opening}
+use Rattle.falcon_core.specs.declared.state.FlightSupervisor.{FlightSupervisor}
+use Rattle.falcon_core.specs.declared.state.Supervisor.{Supervisor}
+use Rattle.falcon_core.specs.State.{openedOf, unopened}
+use Rattle.falcon_core.specs.Calls.{Request, opens, ticks, reports, commands, points, commandedBy, refusalOf, afterOf}
+use Rattle.falcon_core.specs.Sound.{runOf}
+use Rattle.falcon_core.proofs.Refused.{run-keeps}
+use Rattle.falcon_core.proofs.Parts.{reported-keeps, tick-config, tick-battery}
+use Rattle.falcon_core.proofs.Invariant.{reachable-sound}
+
+-- the estimator's configuration is what the opening's volts give
+abbrev pub FromOpening : FlightSupervisor → Type 0
+FromOpening f = f .battery .est .cfg ≡ forOpeningVoltsOf (f .config .«low_batt_v»)
+
+after-from-opening : (s : Supervisor) (r : Request) → FromOpening (s .flight) → refusalOf s r ≡ 0 → FromOpening (afterOf s r .flight)
+unfolding afterOf commandedBy openedOf
+after-from-opening s (opens o) k e = opened-cfg (forOpeningVoltsOf (o .«low_batt_v»))
+after-from-opening s (ticks t) k e =
+    ap (λ (b : Battery). b .est .cfg) (tick-battery (s .flight) t)
+    ∙ update-cfg (s .flight .battery) (t .dt) (t .reading)
+    ∙ rw (tick-config (s .flight) t) k
+after-from-opening s (reports failed) k e = reported-keeps FromOpening (s .flight) failed k k
+after-from-opening s (commands ev level low) k e = k
+after-from-opening s (points l) k e = k
+
+unopened-from-opening : FromOpening (unopened .flight)
+unfolding unopened openedOf
+unopened-from-opening = opened-cfg _
+
+-- at every place of every list of calls
+pub from-opening : (l : List Request) → FromOpening (runOf unopened l .flight)
+from-opening l = run-keeps (λ (u : Supervisor). FromOpening (u .flight)) after-from-opening unopened l unopened-from-opening
+
+-- a sound battery of the built-in pack
+sound-bounds : (b : Battery) (volts : Float) → b .est .cfg ≡ forOpeningVoltsOf volts → SoundBattery b → InBounds b
+sound-bounds b volts e k =
+    let full : capacityOf (b .est .cfg) ≡ capacityMah = ap capacityOf e ∙ capacity-opening volts in
+    record {
+      charge-bound = k .shown .charge;
+      used-bound = rw full at (k .estimator .used);
+      used-shown-bound = rw full at (k .shown .used-shown);
+      resistance-bound = k .estimator .resistance;
+      resistance-shown-bound = k .shown .resistance-shown;
+      nothing-shown-bound = k .shown .nothing-shown;
+    }
+
+-- "Bounds to be shown: charge 0..1, used 0..5000 mAh, estimated resistance 0.001..0.2"
+pub battery-bounds : (l : List Request) → InBounds (runOf unopened l .flight .battery)
+battery-bounds l = sound-bounds (runOf unopened l .flight .battery) (runOf unopened l .flight .config .«low_batt_v») (from-opening l) (reachable-sound l .battery)

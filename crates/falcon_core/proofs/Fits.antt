@@ -1,0 +1,123 @@
+-- The floats of the state stay f32 values where those of the calls are.
+use Prim.Native.Nat.{ℕ, _+_, _*_}
+use mathlib.Core.Bool.{_||_}
+use mathlib.Core.List.{List, [], _∷_}
+use mathlib.Core.Path.{sym, subst}
+use lib.ListN.{getD}
+use lib.Ieee.{Float, nan, binary32, add, lt, le}
+use lib.Ieee.Bits.{ofBits-fits}
+use lib.Ieee.Fits.{cond-fits, nan-fits, add-fits, sub-fits}
+use Rattle.relay_fsm.specs.declared.Mode.{Mode}
+use Rattle.relay_batt.specs.Config.{forOpeningVoltsOf}
+use Rattle.relay_batt.specs.Fits.{Fit}
+use Rattle.relay_batt.proofs.Fits.{fits-update, fits-new, fits-opening}
+use Rattle.falcon_core.specs.declared.state.Hold.{Hold}
+use Rattle.falcon_core.specs.declared.state.Opening.{Opening}
+use Rattle.falcon_core.specs.declared.state.Tick.{Tick}
+use Rattle.falcon_core.specs.declared.state.FlightSupervisor.{FlightSupervisor}
+use Rattle.falcon_core.specs.declared.state.Supervisor.{Supervisor}
+use Rattle.falcon_core.specs.State.{zerof, origin, noZone, nowhere, maxWaypoints, maxKeepoutZones, openedOf, unopened}
+use Rattle.falcon_core.specs.Mission.{pointAtOf, triedOf, loadedOf}
+use Rattle.falcon_core.specs.Zones.{noPlace}
+use Rattle.falcon_core.specs.Failsafe.{clearedOf, breachedOf, runawayOf, windOf}
+use Rattle.falcon_core.specs.Milestone.{milestoneOf}
+use Rattle.falcon_core.specs.Hold.{holdsOf, holdRestMs, holdRestS, holdBrakeMaxS, horizSpeedOf, brakePointOf, enteredOf, restOf, brakedOf, leftOf, keptOf, heldOf}
+use Rattle.falcon_core.specs.Tick.{checkedOf, poweredOf, telemetryOf, sensedOf, afterBreach, afterRunaway, afterWind, afterMilestone, holdingOf, tickOf}
+use Rattle.falcon_core.specs.Calls.{Request, opens, ticks, reports, commands, points, commandedBy, afterOf, stepOf}
+use Rattle.falcon_core.specs.Sound.{runOf, FitPoint, FitZone, FitHold, FitFlight, FitOpening, FitTick, Lent, EachLent}
+use Rattle.falcon_core.proofs.Refused.{step-keeps}
+use Rattle.falcon_core.proofs.Parts.{cond-keeps, reported-keeps, tick-flight}
+use Rattle.falcon_core.proofs.Places.{filled-holds, replicate-holds, stored-filled}
+
+zero-fits : Fit zerof
+zero-fits = ofBits-fits binary32 0
+
+origin-fits : FitPoint origin
+origin-fits = record { x = zero-fits; y = zero-fits; z = zero-fits }
+
+nowhere-fits : FitPoint nowhere
+nowhere-fits = record { x = nan-fits binary32; y = nan-fits binary32; z = nan-fits binary32 }
+
+-- ---- the hold
+
+braked-fits : (h : Hold) (t : Tick) → FitPoint (t .p) → FitHold (brakedOf h t)
+unfolding brakedOf restOf brakePointOf
+braked-fits h t p =
+    let rest : Fit (restOf h t) = cond-fits binary32 (lt (horizSpeedOf t) holdRestMs) _ zerof (add-fits binary32 (h .«brake_rest_s») (t .dt)) zero-fits in
+    cond-keeps FitHold (le holdRestS (restOf h t) || le holdBrakeMaxS (add binary32 (h .«brake_s») (t .dt))) _ _
+    (record { x = p .x; y = p .y; brake = add-fits binary32 (h .«brake_s») (t .dt); rest = rest })
+    (record { x = sub-fits binary32 (t .p .x) _; y = sub-fits binary32 (t .p .y) _; brake = add-fits binary32 (h .«brake_s») (t .dt); rest = rest })
+
+entered-fits : (h : Hold) (m : Mode) (t : Tick) → FitHold h → FitPoint (t .p) → FitHold (enteredOf h m t)
+unfolding enteredOf
+entered-fits h m t k p = cond-keeps FitHold (h .«hold_regime») h _ k (record { x = p .x; y = p .y; brake = zero-fits; rest = zero-fits })
+
+held-fits : (h : Hold) (m : Mode) (t : Tick) → FitHold h → FitPoint (t .p) → FitHold (heldOf h m t)
+unfolding heldOf keptOf leftOf
+held-fits h m t k p =
+    let entered = entered-fits h m t k p in
+    cond-keeps FitHold (holdsOf m) (keptOf h m t) (leftOf h)
+    (cond-keeps FitHold (enteredOf h m t .«hold_braking») (brakedOf (enteredOf h m t) t) (enteredOf h m t) (braked-fits (enteredOf h m t) t p) entered)
+    (record { x = k .x; y = k .y; brake = k .brake; rest = k .rest })
+
+-- ---- the calls
+
+opened-fits : (o : Opening) → FitOpening o → FitFlight (openedOf o)
+unfolding openedOf
+opened-fits o k = record {
+  config = record { home = k .home; fence = k .fence; cruise = k .cruise; volts = k .volts };
+  battery = fits-new (forOpeningVoltsOf (o .«low_batt_v»)) (fits-opening (o .«low_batt_v»));
+  waypoints = λ i. replicate-holds FitPoint nowhere origin maxWaypoints i nowhere-fits origin-fits;
+  zones = λ i. replicate-holds FitZone noPlace noZone maxKeepoutZones i (record { center = nowhere-fits; radius = nan-fits binary32 }) (record { center = origin-fits; radius = zero-fits });
+  hold = record { x = k .home .x; y = k .home .y; brake = zero-fits; rest = zero-fits };
+}
+
+tick-fits : (f : FlightSupervisor) (t : Tick) → FitTick t → FitFlight f → FitFlight (tickOf f t .flight)
+unfolding holdingOf afterMilestone milestoneOf afterWind windOf afterRunaway runawayOf afterBreach breachedOf sensedOf telemetryOf poweredOf checkedOf clearedOf
+tick-fits f t l k =
+    subst FitFlight (sym (tick-flight f t))
+    (record {
+      config = k .config;
+      battery = fits-update (f .battery) (t .dt) (t .reading) (k .battery) (l .reading);
+      waypoints = k .waypoints;
+      zones = k .zones;
+      hold = held-fits (f .hold) _ t (k .hold) (l .p);
+    })
+
+point-fits : (l : List Float) → ((i : ℕ) → Fit (getD l i nan)) → (i : ℕ) → FitPoint (pointAtOf l i)
+unfolding pointAtOf
+point-fits l h i = record { x = h (3 * i); y = h (3 * i + 1); z = h (3 * i + 2) }
+
+after-fits : (s : Supervisor) (r : Request) → Lent r → FitFlight (s .flight) → FitFlight (afterOf s r .flight)
+unfolding afterOf commandedBy loadedOf
+after-fits s (opens o) l k = opened-fits o l
+after-fits s (ticks t) l k = tick-fits (s .flight) t l k
+after-fits s (reports failed) l k =
+    reported-keeps FitFlight (s .flight) failed k
+    (record { config = k .config; battery = k .battery; waypoints = k .waypoints; zones = k .zones; hold = k .hold })
+after-fits s (commands ev level low) l k = record { config = k .config; battery = k .battery; waypoints = k .waypoints; zones = k .zones; hold = k .hold }
+after-fits s (points ps) l k = record {
+  config = k .config;
+  battery = k .battery;
+  waypoints = λ i. rw (stored-filled ps (triedOf ps)) (filled-holds FitPoint nowhere origin maxWaypoints (pointAtOf ps) (triedOf ps) i nowhere-fits origin-fits (point-fits ps l));
+  zones = k .zones;
+  hold = k .hold;
+}
+
+-- one call
+pub fits-step : (s : Supervisor) (r : Request) → Lent r → FitFlight (s .flight) → FitFlight (stepOf s r .supervisor .flight)
+fits-step s r l k = step-keeps s r (λ (u : Supervisor). FitFlight (u .flight)) k (λ e. after-fits s r l k)
+
+pub fits-unopened : FitFlight (unopened .flight)
+unfolding unopened
+fits-unopened = opened-fits _ (record { home = origin-fits; fence = zero-fits; cruise = zero-fits; volts = zero-fits })
+
+-- a list of calls whose floats are f32 values
+pub run-fits : (s : Supervisor) (l : List Request) → EachLent l → FitFlight (s .flight) → FitFlight (runOf s l .flight)
+unfolding runOf
+run-fits s [] h k = k
+run-fits s (r ∷ l) h k = run-fits (stepOf s r .supervisor) l (h .1) (fits-step s r (h .0) k)
+
+-- the same from the state with no opening
+pub fits-run : (l : List Request) → EachLent l → FitFlight (runOf unopened l .flight)
+fits-run l h = run-fits unopened l h fits-unopened

@@ -1,0 +1,89 @@
+-- What a refusal keeps and answers, what acceptance tells, and what every list of calls keeps.
+use Prim.Native.Nat.{ℕ, zero, suc}
+use native.Mathlib.Omega.{arith}
+use mathlib.Core.Bool.{Bool, true, false, cond, not, _&&_, _||_}
+use mathlib.Core.List.{List, [], _∷_}
+use mathlib.Core.Path.{_≡_, refl, sym, ap, _∙_}
+use Rattle.relay_preflight.specs.Table.{outstandingOf}
+use Rattle.relay_preflight.specs.Verdict.{firstBlockerOf}
+use Rattle.falcon_core.specs.declared.state.Supervisor.{Supervisor}
+use Rattle.falcon_core.specs.declared.calls.Output.the-variants.{Nothing}
+use Rattle.falcon_core.specs.declared.calls.Answered.{Answered}
+use Rattle.falcon_core.specs.Calls.{Request, miscounted, masksTooLarge, isOpening, isReport, pointRefused, refusalOf, afterOf, answerOf, refusedOf, acceptedOf, stepOf}
+use Rattle.falcon_core.specs.Sound.{runOf}
+use Rattle.falcon_core.proofs.Answers.{step-refused, step-accepted}
+
+-- ---- refused calls
+
+module _ (s : Supervisor) (r : Request) where
+  refused-by : (n : ℕ) → refusalOf s r ≡ n → (refusalOf s r ≡ 0 → ⊥) → stepOf s r ≡ refusedOf s (refusalOf s r)
+  refused-by zero e h = absurd (h e)
+  refused-by (suc n) e h = step-refused s r n e ∙ ap (refusedOf s) (sym e)
+
+  -- a refused call is answered with its refusal, the mode, the outstanding checks and the blocker as they are and nothing else, and keeps the state
+  pub refused-is : (refusalOf s r ≡ 0 → ⊥) → stepOf s r ≡ record { supervisor = s; answer = record { refusal = refusalOf s r; mode = s .flight .fsm .mode; output = Nothing; outstanding = outstandingOf (s .flight .«check_table»); verdict = firstBlockerOf (s .flight .«check_table») } }
+  unfolding refusedOf answerOf
+  refused-is h = refused-by (refusalOf s r) refl h
+
+  -- "A refusal keeps the state"
+  pub refused-keeps : (refusalOf s r ≡ 0 → ⊥) → stepOf s r .supervisor ≡ s
+  refused-keeps h = ap (λ (a : Answered). a .supervisor) (refused-is h)
+
+  answered-by : (n : ℕ) → refusalOf s r ≡ n → stepOf s r .answer .refusal ≡ n
+  unfolding refusedOf acceptedOf answerOf
+  answered-by zero e = rw (step-accepted s r e)
+  answered-by (suc n) e = rw (step-refused s r n e)
+
+  -- the refusal that fits is the one answered, 0 where none does
+  pub refusal-answered : stepOf s r .answer .refusal ≡ refusalOf s r
+  refusal-answered = answered-by (refusalOf s r) refl
+
+  after-by : (P : Supervisor → Type 0) (n : ℕ) → refusalOf s r ≡ n → P s → (refusalOf s r ≡ 0 → P (afterOf s r)) → P (stepOf s r .supervisor)
+  unfolding refusedOf acceptedOf
+  after-by P zero e k h = rw (step-accepted s r e) (h e)
+  after-by P (suc n) e k h = rw (step-refused s r n e) k
+
+  -- what holds of the state and is kept by the call if accepted holds after it
+  pub step-keeps : (P : Supervisor → Type 0) → P s → (refusalOf s r ≡ 0 → P (afterOf s r)) → P (stepOf s r .supervisor)
+  step-keeps P = after-by P (refusalOf s r) refl
+
+-- what holds of the state and is kept by every accepted call holds after every list of calls
+pub run-keeps :
+    (P : Supervisor → Type 0) →
+    ((s : Supervisor) (r : Request) → P s → refusalOf s r ≡ 0 → P (afterOf s r)) →
+    (s : Supervisor) (l : List Request) → P s → P (runOf s l)
+unfolding runOf
+run-keeps P h s [] k = k
+run-keeps P h s (r ∷ l) k = run-keeps P h (stepOf s r .supervisor) l (step-keeps s r P k (h s r k))
+
+-- ---- accepted calls
+
+-- a test that does not fit
+pub unfit : (b : Bool) (n k : ℕ) → cond b (suc n) k ≡ 0 → (b ≡ false) × (k ≡ 0)
+unfit true n k e = absurd (omega arith)
+unfit false n k e = (refl, e)
+
+-- none of the table's tests fits
+pub record Passed (s : Supervisor) (r : Request) : Type 0 where
+  pub counted : miscounted r ≡ false
+  pub in-range : masksTooLarge r ≡ false
+  pub after-opening : (not (isOpening r) && not (s .opened)) ≡ false
+  pub none-due : (not (isReport r || isOpening r) && s .«report_due») ≡ false
+  pub due : (isReport r && not (s .«report_due»)) ≡ false
+  pub admissible : pointRefused s r ≡ false
+
+pub accepted-passed : (s : Supervisor) (r : Request) → refusalOf s r ≡ 0 → Passed s r
+unfolding refusalOf
+accepted-passed s r e =
+    let a = unfit (miscounted r) 3 _ e in
+    let b = unfit (masksTooLarge r) 4 _ (a .1) in
+    let c = unfit (not (isOpening r) && not (s .opened)) 0 _ (b .1) in
+    let d = unfit (not (isReport r || isOpening r) && s .«report_due») 5 _ (c .1) in
+    let f = unfit (isReport r && not (s .«report_due»)) 6 _ (d .1) in
+    let g = unfit (pointRefused s r) 7 _ (f .1) in
+    record { counted = a .0; in-range = b .0; after-opening = c .0; none-due = d .0; due = f .0; admissible = g .0 }
+
+-- "a call that no refusal fits is accepted"
+pub passed-accepted : (s : Supervisor) (r : Request) → Passed s r → refusalOf s r ≡ 0
+unfolding refusalOf
+passed-accepted s r p = rw (p .counted, p .in-range, p .after-opening, p .none-due, p .due, p .admissible)
