@@ -23,6 +23,7 @@ ghost use Rattle.exports.specs.Battery.{configNumbers, estimatorNumbers,
 // How many numbers a battery is.
 const SIZE: usize = 29;
 
+// The pack of numbers 0 to 7.
 fn config_from(ns: &[u32]) -> BattConfig
     ensures { λ r. ⌜ r ≡ configFrom (now (ns .entry)) ⌝ }
 {
@@ -49,6 +50,7 @@ fn latch_from(ns: &[u32], i: usize) -> TripLatch
     }
 }
 
+// The estimator of numbers 0 to 16.
 fn estimator_from(ns: &[u32]) -> BatteryEstimator
     ensures { λ r. ⌜ r ≡ estimatorFrom (now (ns .entry)) ⌝ }
 {
@@ -64,6 +66,7 @@ fn estimator_from(ns: &[u32]) -> BatteryEstimator
     }
 }
 
+// The state shown of numbers 17 to 25.
 fn state_from(ns: &[u32]) -> BattState
     ensures { λ r. ⌜ r ≡ stateFrom (now (ns .entry)) ⌝ }
 {
@@ -80,6 +83,7 @@ fn state_from(ns: &[u32]) -> BattState
     }
 }
 
+// The battery of all 29 numbers.
 fn battery_from(ns: &[u32]) -> Battery
     ensures { λ r. ⌜ r ≡ batteryFrom (now (ns .entry)) ⌝ }
 {
@@ -117,6 +121,7 @@ fn update_from(ns: &[u32], dt: u32, kind: u32, volts: u32, amps: u32) -> Battery
     battery.update(from_bits(dt), reading)
 }
 
+// The pack's numbers.
 fn config_numbers(c: BattConfig) -> [u32; 8]
     ensures { λ r. ⌜ r ≡ configNumbers c ⌝ }
 {
@@ -149,6 +154,7 @@ fn estimator_numbers(e: BatteryEstimator) -> [u32; 9]
     ]
 }
 
+// The numbers of the state shown.
 fn state_numbers(s: BattState) -> [u32; 9]
     ensures { λ r. ⌜ r ≡ stateNumbers s ⌝ }
 {
@@ -165,6 +171,7 @@ fn state_numbers(s: BattState) -> [u32; 9]
     ]
 }
 
+// The silence and its two flags as numbers.
 fn silence_numbers(b: Battery) -> [u32; 3]
     ensures { λ r. ⌜ r ≡ silenceNumbers b ⌝ }
 {
