@@ -2,23 +2,14 @@
 //!
 //! `root all` compares every pattern, `root quick` about two million, `root bench` times both. `all` and `quick` exit 1 on a difference.
 
+use proved::sqrtf as proved;
 use std::hint::black_box;
 use std::time::Instant;
-
-extern "C" {
-    fn bartsemmo_sqrtf(b: u32) -> u32;
-}
 
 const CANONICAL_NAN: u32 = 0x7fc0_0000;
 const INFINITY: u32 = 0x7f80_0000;
 const LEAST_NORMAL: u32 = 0x0080_0000;
 const ONE: u32 = 0x3f80_0000;
-
-/// The proved root.
-fn proved(b: u32) -> u32 {
-    // SAFETY: a function of one number that reads no memory.
-    unsafe { bartsemmo_sqrtf(b) }
-}
 
 /// Rust's root. NaN is made canonical on the bits: a test of the float is dropped by the optimizer after `sqrt`.
 #[inline(always)]
@@ -64,9 +55,7 @@ fn near_square(r: &mut Random) -> u32 {
 type Class = (&'static str, fn(&mut Random) -> u32);
 
 const CLASSES: [Class; 4] = [
-    ("normals", |r| {
-        LEAST_NORMAL + r.below(INFINITY - LEAST_NORMAL)
-    }),
+    ("normals", |r| LEAST_NORMAL + r.below(INFINITY - LEAST_NORMAL)),
     ("subnormals", |r| 1 + r.below(LEAST_NORMAL - 1)),
     ("powers of two", |r| match r.below(8) {
         0 => 1 << r.below(23),
@@ -78,13 +67,9 @@ const CLASSES: [Class; 4] = [
 /// Inputs of each class and of all mixed.
 fn inputs(n: usize) -> Vec<(&'static str, Vec<u32>)> {
     let mut r = Random(0x9e37_79b9_7f4a_7c15);
-    let mut all: Vec<(&'static str, Vec<u32>)> = CLASSES
-        .iter()
-        .map(|&(name, make)| (name, (0..n).map(|_| make(&mut r)).collect()))
-        .collect();
-    let mixed = (0..n)
-        .map(|_| CLASSES[r.below(4) as usize].1(&mut r))
-        .collect();
+    let mut all: Vec<(&'static str, Vec<u32>)> =
+        CLASSES.iter().map(|&(name, make)| (name, (0..n).map(|_| make(&mut r)).collect())).collect();
+    let mixed = (0..n).map(|_| CLASSES[r.below(4) as usize].1(&mut r)).collect();
     all.push(("all mixed", mixed));
     all
 }
@@ -123,11 +108,7 @@ impl Found {
             self.compared, self.nan, self.different
         );
         if let Some(b) = self.first {
-            println!(
-                "first difference: root {b:08x} is {:08x} here and {:08x} in Rust",
-                proved(b),
-                inlined(b)
-            );
+            println!("first difference: root {b:08x} is {:08x} here and {:08x} in Rust", proved(b), inlined(b));
         }
         self.different == 0
     }
@@ -144,11 +125,7 @@ fn all() -> bool {
         }
     };
     let threads = [0, 0x8000_0000].map(|from| std::thread::spawn(half(from)));
-    threads
-        .into_iter()
-        .map(|t| t.join().unwrap())
-        .fold(Found::default(), Found::add)
-        .report()
+    threads.into_iter().map(|t| t.join().unwrap()).fold(Found::default(), Found::add).report()
 }
 
 fn quick() -> bool {
@@ -162,14 +139,7 @@ fn quick() -> bool {
         }
     }
     // around zero, the least normal number, one, two, infinity and the canonical NaN, with both signs
-    for edge in [
-        0,
-        LEAST_NORMAL,
-        ONE,
-        ONE + LEAST_NORMAL,
-        INFINITY,
-        CANONICAL_NAN,
-    ] {
+    for edge in [0, LEAST_NORMAL, ONE, ONE + LEAST_NORMAL, INFINITY, CANONICAL_NAN] {
         for d in 0..2000u32 {
             let b = edge.wrapping_add(d).wrapping_sub(1000);
             found.compare(b);
@@ -228,11 +198,7 @@ fn bench() {
         let [p, c, i, pc, cc] = t.map(least);
         ratios.push(p / c);
         chains.push(pc / cc);
-        println!(
-            "{name:<18} {p:>8.2} {c:>8.2} {i:>8.2} {:>8.2} {pc:>8.2} {cc:>8.2} {:>8.2}",
-            p / c,
-            pc / cc
-        );
+        println!("{name:<18} {p:>8.2} {c:>8.2} {i:>8.2} {:>8.2} {pc:>8.2} {cc:>8.2} {:>8.2}", p / c, pc / cc);
     }
     for (what, list) in [("apart", ratios), ("chained", chains)] {
         let mean = list.iter().sum::<f64>() / list.len() as f64;

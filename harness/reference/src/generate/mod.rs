@@ -4,7 +4,7 @@
 mod damage;
 mod edge;
 mod flight;
-mod float;
+pub mod float;
 mod wild;
 
 use crate::falcon_core::FlightSupervisor;

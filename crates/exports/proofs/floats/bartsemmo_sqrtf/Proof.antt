@@ -1,7 +1,7 @@
 -- `bartsemmo_sqrtf`: what its three calls ensure, one after the other.
 use borrow.Author.Needs.{needs}
-use Rattle.exports.proofs.bartsemmo_sqrtf.Statement.{statement}
-use Rattle.exports.proofs.bartsemmo_sqrtf.Tie as tie
+use Rattle.exports.proofs.floats.bartsemmo_sqrtf.Statement.{statement}
+use Rattle.exports.proofs.floats.bartsemmo_sqrtf.Tie as tie
 
 from-bits-requires : tie.Need-from-bits-requires
 from-bits-requires c κs = search needs

@@ -1,0 +1,149 @@
+-- The battery as 29 numbers: the pack, the estimator, what is shown, and the silence with its two flags.
+use Prim.Native.Nat.{ℕ, _+_}
+use mathlib.Core.Bool.{cond}
+use mathlib.Core.List.{List, [], _∷_, _++_}
+use lib.Dec.{eqb, ltb}
+use lib.ListN.{length, getD}
+use lib.Seq.{sets}
+use lib.Ieee.{Float, binary32, ofBits, toBits}
+use Rattle.relay_batt.specs.declared.config.BattConfig.{BattConfig}
+use Rattle.relay_batt.specs.declared.latch.TripLatch.{TripLatch}
+use Rattle.relay_batt.specs.declared.estimator.BattState.{BattState}
+use Rattle.relay_batt.specs.declared.estimator.BatteryEstimator.{BatteryEstimator}
+use Rattle.relay_batt.specs.declared.battery.Battery.{Battery}
+use Rattle.relay_batt.specs.declared.battery.Reading.{Reading}
+use Rattle.relay_batt.specs.declared.battery.Reading.the-variants.{Nothing, Volts, VoltsAmps}
+use Rattle.relay_batt.specs.Battery.{openedOf, updateOf}
+use Rattle.exports.specs.Numbers.{flag, floatAt, flagAt}
+
+-- how many numbers a battery is
+abbrev pub size : ℕ
+size = 29
+
+-- the bits of an f32
+abbrev pub bits : Float → ℕ
+bits x = toBits binary32 x
+
+-- ---- from numbers
+
+-- the pack, numbers 0 to 7
+unfoldable pub configFrom : List ℕ → BattConfig
+configFrom ns = record {
+  «capacity_mah» = floatAt ns 0;
+  cells = getD ns 1 0;
+  «r_internal» = floatAt ns 2;
+  «low_soc» = floatAt ns 3;
+  «crit_soc» = floatAt ns 4;
+  «low_v_cell_fallback» = floatAt ns 5;
+  «crit_v_cell_fallback» = floatAt ns 6;
+  «debounce_s» = floatAt ns 7;
+}
+
+-- the latch whose two numbers begin at a place
+unfoldable pub latchFrom : List ℕ → ℕ → TripLatch
+latchFrom ns i = record { «below_s» = floatAt ns i; latched = flagAt ns (i + 1) }
+
+-- the estimator, its pack and numbers 8 to 16
+unfoldable pub estimatorFrom : List ℕ → BatteryEstimator
+estimatorFrom ns = record {
+  cfg = configFrom ns;
+  «consumed_mah» = floatAt ns 8;
+  «r_est» = floatAt ns 9;
+  «prev_v» = floatAt ns 10;
+  «prev_i» = floatAt ns 11;
+  «have_prev» = flagAt ns 12;
+  low = latchFrom ns 13;
+  critical = latchFrom ns 15;
+}
+
+-- what is shown, numbers 17 to 25
+unfoldable pub stateFrom : List ℕ → BattState
+stateFrom ns = record {
+  volts = floatAt ns 17;
+  «rest_volts» = floatAt ns 18;
+  «current_a» = floatAt ns 19;
+  «consumed_mah» = floatAt ns 20;
+  soc = floatAt ns 21;
+  «r_est» = floatAt ns 22;
+  low = flagAt ns 23;
+  critical = flagAt ns 24;
+  degraded = flagAt ns 25;
+}
+
+-- the battery, with the silence and its flags in numbers 26 to 28
+unfoldable pub batteryFrom : List ℕ → Battery
+batteryFrom ns = record { est = estimatorFrom ns; state = stateFrom ns; «missing_s» = floatAt ns 26; present = flagAt ns 27; seen = flagAt ns 28 }
+
+-- a reading by its kind on the sheet: 0 nothing, 1 volts, 2 volts and amps
+unfoldable pub readingFrom : ℕ → ℕ → ℕ → Reading
+readingFrom kind volts amps =
+    cond (eqb kind 0) Nothing
+    (cond (eqb kind 1) (Volts (ofBits binary32 volts))
+    (VoltsAmps (ofBits binary32 volts) (ofBits binary32 amps)))
+
+-- `Battery::new` by numbers
+unfoldable pub newFrom : List ℕ → Battery
+newFrom ns = openedOf (configFrom ns)
+
+-- `Battery::update` by numbers
+unfoldable pub updateFrom : List ℕ → ℕ → ℕ → ℕ → ℕ → Battery
+updateFrom ns dt kind volts amps = updateOf (batteryFrom ns) (ofBits binary32 dt) (readingFrom kind volts amps)
+
+-- ---- to numbers
+
+-- the pack's eight
+unfoldable pub configNumbers : BattConfig → List ℕ
+configNumbers c =
+    bits (c .«capacity_mah»)
+    ∷ c .cells
+    ∷ bits (c .«r_internal»)
+    ∷ bits (c .«low_soc»)
+    ∷ bits (c .«crit_soc»)
+    ∷ bits (c .«low_v_cell_fallback»)
+    ∷ bits (c .«crit_v_cell_fallback»)
+    ∷ bits (c .«debounce_s»)
+    ∷ []
+
+-- the estimator's nine
+unfoldable pub estimatorNumbers : BatteryEstimator → List ℕ
+estimatorNumbers e =
+    bits (e .«consumed_mah»)
+    ∷ bits (e .«r_est»)
+    ∷ bits (e .«prev_v»)
+    ∷ bits (e .«prev_i»)
+    ∷ flag (e .«have_prev»)
+    ∷ bits (e .low .«below_s»)
+    ∷ flag (e .low .latched)
+    ∷ bits (e .critical .«below_s»)
+    ∷ flag (e .critical .latched)
+    ∷ []
+
+-- the nine of what is shown
+unfoldable pub stateNumbers : BattState → List ℕ
+stateNumbers s =
+    bits (s .volts)
+    ∷ bits (s .«rest_volts»)
+    ∷ bits (s .«current_a»)
+    ∷ bits (s .«consumed_mah»)
+    ∷ bits (s .soc)
+    ∷ bits (s .«r_est»)
+    ∷ flag (s .low)
+    ∷ flag (s .critical)
+    ∷ flag (s .degraded)
+    ∷ []
+
+-- the silence and its flags
+unfoldable pub silenceNumbers : Battery → List ℕ
+silenceNumbers b = bits (b .«missing_s») ∷ flag (b .present) ∷ flag (b .seen) ∷ []
+
+-- all 29, in the order in which they are read
+unfoldable pub batteryNumbers : Battery → List ℕ
+batteryNumbers b = configNumbers (b .est .cfg) ++ (estimatorNumbers (b .est) ++ (stateNumbers (b .state) ++ silenceNumbers b))
+
+-- 1 where there is no room for a battery
+unfoldable pub shortNumber : List ℕ → ℕ
+shortNumber ns = cond (ltb (length ns) size) 1 0
+
+-- the numbers after a battery is stored, where there is room for it
+unfoldable pub storedOf : List ℕ → Battery → List ℕ
+storedOf ns b = cond (ltb (length ns) size) ns (sets ns 0 (batteryNumbers b))

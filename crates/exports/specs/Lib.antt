@@ -1,0 +1,5 @@
+pub mod Numbers
+pub mod Modes
+pub mod Policy
+pub mod Checks
+pub mod Battery

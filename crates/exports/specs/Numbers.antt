@@ -1,0 +1,28 @@
+-- Flags, bits and floats as the harness hands them over: by numbers.
+use Prim.Native.Nat.{ℕ, _/_, _%_}
+use mathlib.Core.Bool.{Bool, true, false}
+use mathlib.Core.List.{List}
+use lib.Dec.{eqb}
+use lib.ListN.{getD}
+use lib.Ieee.{Float, binary32, ofBits}
+
+-- the answer where a number stands for nothing
+abbrev pub unknown : ℕ
+unknown = 0xffff_ffff
+
+-- a flag as a number
+abbrev pub flag : Bool → ℕ
+flag true = 1
+flag false = 0
+
+-- whether the bit of a power of two is set
+abbrev pub bit : ℕ → ℕ → Bool
+bit n power = eqb (n / power % 2) 1
+
+-- the float whose bits stand at a place
+abbrev pub floatAt : List ℕ → ℕ → Float
+floatAt ns i = ofBits binary32 (getD ns i 0)
+
+-- the flag at a place: 1 is true
+abbrev pub flagAt : List ℕ → ℕ → Bool
+flagAt ns i = eqb (getD ns i 0) 1
