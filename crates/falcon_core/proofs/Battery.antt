@@ -11,7 +11,7 @@ use Rattle.relay_batt.proofs.Sound.{update-cfg, opened-cfg, capacity-opening}
 use Rattle.falcon_core.specs.declared.state.FlightSupervisor.{FlightSupervisor}
 use Rattle.falcon_core.specs.declared.state.Supervisor.{Supervisor}
 use Rattle.falcon_core.specs.State.{openedOf, unopened}
-use Rattle.falcon_core.specs.Calls.{Request, opens, ticks, reports, commands, points, commandedBy, refusalOf, afterOf}
+use Rattle.falcon_core.specs.Calls.{Request, opens, ticks, reports, commands, points, zones, commandedBy, refusalOf, afterOf}
 use Rattle.falcon_core.specs.Sound.{runOf}
 use Rattle.falcon_core.proofs.Refused.{run-keeps}
 use Rattle.falcon_core.proofs.Parts.{reported-keeps, tick-config, tick-battery}
@@ -31,6 +31,7 @@ after-from-opening s (ticks t) k e =
 after-from-opening s (reports failed) k e = reported-keeps FromOpening (s .flight) failed k k
 after-from-opening s (commands ev level low) k e = k
 after-from-opening s (points l) k e = k
+after-from-opening s (zones l) k e = k
 
 unopened-from-opening : FromOpening (unopened .flight)
 unfolding unopened openedOf

@@ -15,7 +15,7 @@ use Rattle.falcon_core.specs.declared.tick.TickAnswer.the-variants.{Moto
 use Rattle.falcon_core.specs.State.{unopened}
 use Rattle.falcon_core.specs.Setpoint.{motorsOffOf}
 use Rattle.falcon_core.specs.Tick.{afterMilestone, holdingOf, tickOf}
-use Rattle.falcon_core.specs.Calls.{Request, opens, ticks, reports, commands, points, dueAfter, refusalOf, afterOf, outputOf, answerOf, acceptedOf, stepOf}
+use Rattle.falcon_core.specs.Calls.{Request, opens, ticks, reports, commands, points, zones, dueAfter, refusalOf, afterOf, outputOf, answerOf, acceptedOf, stepOf}
 use Rattle.falcon_core.specs.Sound.{runOf, reportDueAfter}
 use Rattle.falcon_core.proofs.Answers.{step-accepted}
 use Rattle.falcon_core.proofs.Refused.{run-keeps, accepted-passed}
@@ -29,6 +29,7 @@ due-after s (ticks t) e = refl
 due-after s (reports failed) e = refl
 due-after s (commands ev level low) e = accepted-passed s (commands ev level low) e .none-due
 due-after s (points l) e = accepted-passed s (points l) e .none-due
+due-after s (zones l) e = accepted-passed s (zones l) e .none-due
 
 -- the same of the call's answer
 pub step-due : (s : Supervisor) (r : Request) → refusalOf s r ≡ 0 → stepOf s r .supervisor .«report_due» ≡ reportDueAfter (stepOf s r .answer .output)
@@ -58,6 +59,7 @@ due-flying s (ticks t) d = record { tick = t; asks = refl; flies = motors-on (ti
 due-flying s (reports failed) d = absurd (clash refl d)
 due-flying s (commands ev level low) d = absurd (clash refl d)
 due-flying s (points l) d = absurd (clash refl d)
+due-flying s (zones l) d = absurd (clash refl d)
 
 flying-due : (s : Supervisor) (r : Request) → FlyingTick s r → reportDueAfter (outputOf s r) ≡ true
 unfolding outputOf
@@ -101,6 +103,7 @@ after-due-airborne s (ticks t) k e d = subst T (sym (sym (tick-due (s .flight) t
 after-due-airborne s (reports failed) k e d = absurd (clash refl d)
 after-due-airborne s (commands ev level low) k e d = absurd (clash (accepted-passed s (commands ev level low) e .none-due) d)
 after-due-airborne s (points l) k e d = absurd (clash (accepted-passed s (points l) e .none-due) d)
+after-due-airborne s (zones l) k e d = absurd (clash (accepted-passed s (zones l) e .none-due) d)
 
 due-unopened : DueAirborne unopened
 unfolding unopened

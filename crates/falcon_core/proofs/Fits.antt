@@ -18,16 +18,16 @@ use Rattle.falcon_core.specs.declared.state.FlightSupervisor.{FlightSupe
 use Rattle.falcon_core.specs.declared.state.Supervisor.{Supervisor}
 use Rattle.falcon_core.specs.State.{zerof, origin, noZone, nowhere, maxWaypoints, maxKeepoutZones, openedOf, unopened}
 use Rattle.falcon_core.specs.Mission.{pointAtOf, triedOf, loadedOf}
-use Rattle.falcon_core.specs.Zones.{noPlace}
+use Rattle.falcon_core.specs.Zones.{noPlace, zoneAtOf, keptOf as keptZonesOf, loadedZonesOf}
 use Rattle.falcon_core.specs.Failsafe.{clearedOf, breachedOf, runawayOf, windOf}
 use Rattle.falcon_core.specs.Milestone.{milestoneOf}
 use Rattle.falcon_core.specs.Hold.{holdsOf, holdRestMs, holdRestS, holdBrakeMaxS, horizSpeedOf, brakePointOf, enteredOf, restOf, brakedOf, leftOf, keptOf, heldOf}
 use Rattle.falcon_core.specs.Tick.{checkedOf, poweredOf, telemetryOf, sensedOf, afterBreach, afterRunaway, afterWind, afterMilestone, holdingOf, tickOf}
-use Rattle.falcon_core.specs.Calls.{Request, opens, ticks, reports, commands, points, commandedBy, afterOf, stepOf}
+use Rattle.falcon_core.specs.Calls.{Request, opens, ticks, reports, commands, points, zones, commandedBy, afterOf, stepOf}
 use Rattle.falcon_core.specs.Sound.{runOf, FitPoint, FitZone, FitHold, FitFlight, FitOpening, FitTick, Lent, EachLent}
 use Rattle.falcon_core.proofs.Refused.{step-keeps}
 use Rattle.falcon_core.proofs.Parts.{cond-keeps, reported-keeps, tick-flight}
-use Rattle.falcon_core.proofs.Places.{filled-holds, replicate-holds, stored-filled}
+use Rattle.falcon_core.proofs.Places.{filled-holds, replicate-holds, stored-filled, stored-zones-filled}
 
 zero-fits : Fit zerof
 zero-fits = ofBits-fits binary32 0
@@ -88,8 +88,18 @@ point-fits : (l : List Float) → ((i : ℕ) → Fit (getD l i nan)) → (i : �
 unfolding pointAtOf
 point-fits l h i = record { x = h (3 * i); y = h (3 * i + 1); z = h (3 * i + 2) }
 
+no-place-fits : FitZone noPlace
+no-place-fits = record { center = nowhere-fits; radius = nan-fits binary32 }
+
+no-zone-fits : FitZone noZone
+no-zone-fits = record { center = origin-fits; radius = zero-fits }
+
+zone-fits : (l : List Float) → ((i : ℕ) → Fit (getD l i nan)) → (i : ℕ) → FitZone (zoneAtOf l i)
+unfolding zoneAtOf
+zone-fits l h i = record { center = record { x = h (4 * i); y = h (4 * i + 1); z = h (4 * i + 2) }; radius = h (4 * i + 3) }
+
 after-fits : (s : Supervisor) (r : Request) → Lent r → FitFlight (s .flight) → FitFlight (afterOf s r .flight)
-unfolding afterOf commandedBy loadedOf
+unfolding afterOf commandedBy loadedOf loadedZonesOf
 after-fits s (opens o) l k = opened-fits o l
 after-fits s (ticks t) l k = tick-fits (s .flight) t l k
 after-fits s (reports failed) l k =
@@ -101,6 +111,13 @@ after-fits s (points ps) l k = record {
   battery = k .battery;
   waypoints = λ i. rw (stored-filled ps (triedOf ps)) (filled-holds FitPoint nowhere origin maxWaypoints (pointAtOf ps) (triedOf ps) i nowhere-fits origin-fits (point-fits ps l));
   zones = k .zones;
+  hold = k .hold;
+}
+after-fits s (zones zs) l k = record {
+  config = k .config;
+  battery = k .battery;
+  waypoints = k .waypoints;
+  zones = λ i. rw (stored-zones-filled zs (keptZonesOf zs)) (filled-holds FitZone noPlace noZone maxKeepoutZones (zoneAtOf zs) (keptZonesOf zs) i no-place-fits no-zone-fits (zone-fits zs l));
   hold = k .hold;
 }
 

@@ -41,11 +41,11 @@ use Rattle.falcon_core.specs.Preflight.{navRowsOf, integrityRowsOf, read
 use Rattle.falcon_core.specs.Failsafe.{modeAfter, clearedOf, breachGives, breachedOf, tiltedOf, tiltRunawayCycles, runawayCountOf, runawayEnough, runawayEvent, runawayCounted, runawayGives, runawayOf, windGives, windOf}
 use Rattle.falcon_core.specs.Milestone.{arrivedOf, milestoneGives, legOf, milestoneOf}
 use Rattle.falcon_core.specs.Tick.{checkedOf, poweredOf, telemetryOf, sensedOf, afterBreach, afterRunaway, afterWind, afterMilestone, holdingOf, tickOf}
-use Rattle.falcon_core.specs.Calls.{Request, opens, ticks, reports, commands, points, commandedBy, refusalOf, afterOf, stepOf}
+use Rattle.falcon_core.specs.Calls.{Request, opens, ticks, reports, commands, points, zones, commandedBy, refusalOf, afterOf, stepOf}
 use Rattle.falcon_core.specs.Sound.{runOf, SoundChecks, SoundMission, SoundTilt, SoundFlight}
 use Rattle.falcon_core.proofs.Refused.{accepted-passed, step-keeps, run-keeps}
 use Rattle.falcon_core.proofs.Parts.{cond-keeps, reported-keeps, tick-flight}
-use Rattle.falcon_core.proofs.Places.{untouched, sound-loaded}
+use Rattle.falcon_core.proofs.Places.{untouched, sound-loaded, sound-zones-loaded}
 
 -- ---- the checks
 
@@ -224,6 +224,7 @@ after-sound s (commands ev level low) k e = mode-sound (s .flight) _ _ (on-tilt 
 after-sound s (points l) k e =
     let t : allAdmissibleOf (s .flight .config) l (triedOf l) ≡ true = not-false _ (accepted-passed s (points l) e .admissible) in
     record { checks = k .checks; mission = sound-loaded (s .flight .config) l (rw t tt); zones = k .zones; tilt = k .tilt; battery = k .battery }
+after-sound s (zones l) k e = record { checks = k .checks; mission = k .mission; zones = sound-zones-loaded l; tilt = k .tilt; battery = k .battery }
 
 -- a call, refused or accepted, keeps a sound state sound
 pub step-sound : (s : Supervisor) (r : Request) → SoundFlight (s .flight) → SoundFlight (stepOf s r .supervisor .flight)

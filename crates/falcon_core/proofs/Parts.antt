@@ -16,7 +16,7 @@ use Rattle.falcon_core.specs.Setpoint.{motorsOffOf}
 use Rattle.falcon_core.specs.Failsafe.{clearedOf, breachedOf, withoutPosition, motorLost, runawayOf, windOf, reportedOf}
 use Rattle.falcon_core.specs.Milestone.{milestoneOf}
 use Rattle.falcon_core.specs.Tick.{checkedOf, poweredOf, telemetryOf, sensedOf, afterBreach, afterRunaway, afterWind, afterMilestone, holdingOf, answeredOf, tickOf}
-use Rattle.falcon_core.specs.Calls.{Request, opens, ticks, reports, commands, points, isOpening, dueAfter, commandedBy, refusalOf, afterOf, acceptedOf, stepOf}
+use Rattle.falcon_core.specs.Calls.{Request, opens, ticks, reports, commands, points, zones, isOpening, dueAfter, commandedBy, refusalOf, afterOf, acceptedOf, stepOf}
 use Rattle.falcon_core.proofs.Answers.{step-accepted}
 use Rattle.falcon_core.proofs.Refused.{step-keeps}
 
@@ -70,6 +70,7 @@ after-config s (ticks t) h = tick-config (s .flight) t
 after-config s (reports failed) h = reported-keeps (λ (g : FlightSupervisor). g .config ≡ s .flight .config) (s .flight) failed refl refl
 after-config s (commands ev level low) h = refl
 after-config s (points l) h = refl
+after-config s (zones l) h = refl
 
 -- a configuration changes only by an opening
 pub config-kept : (s : Supervisor) (r : Request) → isOpening r ≡ false → stepOf s r .supervisor .flight .config ≡ s .flight .config

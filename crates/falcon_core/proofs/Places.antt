@@ -14,10 +14,12 @@ use Rattle.falcon_core.specs.declared.state.Config.{Config}
 use Rattle.falcon_core.specs.declared.state.Point.{Point}
 use Rattle.falcon_core.specs.declared.state.FlightSupervisor.{FlightSupervisor}
 use Rattle.falcon_core.specs.declared.state.Supervisor.{Supervisor}
-use Rattle.falcon_core.specs.State.{maxWaypoints, origin, nowhere}
+use Rattle.falcon_core.specs.State.{maxWaypoints, maxKeepoutZones, origin, noZone, nowhere}
+use Rattle.falcon_core.specs.declared.state.Zone.{Zone}
+use Rattle.falcon_core.specs.Zones.{noPlace, zoneAtOf, keptOf, storedZonesOf, loadedZonesOf}
 use Rattle.falcon_core.specs.Mission.{waypointAdmissibleOf, pointAtOf, triedOf, allAdmissibleOf, storedOf, loadedOf}
 use Rattle.falcon_core.specs.Calls.{points, refusalOf, stepOf}
-use Rattle.falcon_core.specs.Sound.{firstOf, filledOf, Tidy, SoundMission}
+use Rattle.falcon_core.specs.Sound.{firstOf, filledOf, Tidy, SoundMission, SoundZones}
 use Rattle.falcon_core.proofs.Waypoints.{tried-places}
 use Rattle.falcon_core.proofs.Parts.{points-flight}
 
@@ -158,6 +160,39 @@ pub points-loaded :
       «wp_index» = 0;
     }
 points-loaded s l e = ap (λ (f : FlightSupervisor). f .mission) (points-flight s l e) ∙ loaded-is l
+
+-- ---- the zones of an accepted list
+
+-- what `storedZonesOf` fills
+pub stored-zones-filled : (l : List Float) (n : ℕ) → storedZonesOf l n ≡ filledOf (zoneAtOf l) n (replicate maxKeepoutZones noZone)
+unfolding storedZonesOf filledOf
+stored-zones-filled l zero = refl
+stored-zones-filled l (suc n) = rw (stored-zones-filled l n)
+
+kept-places : (l : List Float) → keptOf l ≤ maxKeepoutZones
+unfolding keptOf
+kept-places l = omega arith
+
+-- "Zones: the first 8, untested", in order, then none
+pub loaded-zones-is :
+    (l : List Float) →
+    loadedZonesOf l ≡
+    record {
+      zones = firstOf (zoneAtOf l) (min (length l / 4) maxKeepoutZones) ++ replicate (maxKeepoutZones - min (length l / 4) maxKeepoutZones) noZone;
+      «zone_count» = min (length l / 4) maxKeepoutZones;
+    }
+unfolding loadedZonesOf keptOf
+loaded-zones-is l =
+    rw (stored-zones-filled l (min (length l / 4) maxKeepoutZones), filled-is noZone maxKeepoutZones (zoneAtOf l) (min (length l / 4) maxKeepoutZones) (kept-places l))
+
+-- the zones of a list are sound
+pub sound-zones-loaded : (l : List Float) → SoundZones (loadedZonesOf l)
+unfolding loadedZonesOf
+sound-zones-loaded l =
+    subst
+    (λ (zs : List Zone). Tidy (λ (z : Zone). Unit {0}) noPlace noZone maxKeepoutZones zs (keptOf l))
+    (sym (stored-zones-filled l (keptOf l)))
+    (tidy (λ (z : Zone). Unit {0}) noPlace noZone maxKeepoutZones (zoneAtOf l) (keptOf l) (kept-places l) (λ i h. tt))
 
 -- all tried points are admissible: each of them is
 pub all-admissible : (c : Config) (l : List Float) (n : ℕ) → T (allAdmissibleOf c l n) → (i : ℕ) → i < n → T (waypointAdmissibleOf c (pointAtOf l i))

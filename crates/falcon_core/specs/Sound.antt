@@ -30,7 +30,7 @@ use Rattle.falcon_core.specs.State.{origin, noZone, nowhere, maxWaypoint
 use Rattle.falcon_core.specs.Mission.{waypointAdmissibleOf}
 use Rattle.falcon_core.specs.Zones.{noPlace}
 use Rattle.falcon_core.specs.Failsafe.{tiltRunawayCycles}
-use Rattle.falcon_core.specs.Calls.{Request, opens, ticks, reports, commands, points, dueAfter, stepOf}
+use Rattle.falcon_core.specs.Calls.{Request, opens, ticks, reports, commands, points, zones, dueAfter, stepOf}
 
 -- the state after a list of calls, first call first
 unfoldable pub runOf : Supervisor → List Request → Supervisor
@@ -210,6 +210,7 @@ Lent (ticks t) = FitTick t
 Lent (reports failed) = Unit {0}
 Lent (commands ev level low) = Unit {0}
 Lent (points l) = (i : ℕ) → Fit (getD l i nan)
+Lent (zones l) = (i : ℕ) → Fit (getD l i nan)
 
 -- those of a list of calls
 abbrev pub EachLent : List Request → Type 0
