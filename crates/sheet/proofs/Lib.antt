@@ -10,3 +10,4 @@ pub mod Answer
 pub mod Asking
 mod Floats
 pub mod Writing
+pub mod Replies

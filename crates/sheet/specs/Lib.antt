@@ -3,3 +3,4 @@ pub mod Line
 pub mod Lines
 pub mod Kinds
 pub mod Entry
+pub mod Many

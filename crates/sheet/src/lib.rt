@@ -5,3 +5,4 @@ pub mod field;
 pub mod kinds;
 pub mod line;
 pub mod lines;
+pub mod many;
