@@ -13,3 +13,4 @@ pub mod Writing
 pub mod CallSeen
 pub mod PlaceHolds
 pub mod DemandThree
+pub mod Replies

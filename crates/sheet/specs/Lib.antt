@@ -5,3 +5,4 @@ pub mod Kinds
 pub mod Entry
 pub mod Lists
 pub mod Demand3
+pub mod Many

@@ -6,3 +6,4 @@ pub mod kinds;
 pub mod line;
 pub mod lines;
 pub mod lists;
+pub mod many;
