@@ -31,7 +31,7 @@ use Rattle.falcon_core.proofs.Runaway.{tick-ends}
 use Rattle.sheet.specs.Lists.{Call, Began, Place, callStep, taken, nextMode, ticked, nextBattery, nextBegan, nextPlace, placeFrom, placeAt, start, latchOf, calm, calmFrom, tickCount, ticksFrom}
 use Rattle.sheet.specs.Demand3.{landingTicks, tumblingTicks, underGround, tumbling, tumblingFor, TwoTicks, Landed, RankKept, FiftyTicks, Holds, Demand3}
 use Rattle.sheet.proofs.CallSeen.{Seen, refused, took, seen}
-use Rattle.sheet.proofs.PlaceHolds.{run, Inv, Holding, refused-mode, accepted-mode, one-more, run-now, tick-terminates, no-air, next-holding, place-holding, start-holding}
+use Rattle.sheet.proofs.PlaceHolds.{run, Inv, Holding, refused-mode, accepted-mode, one-more, run-now, enough-is, tick-terminates, no-air, next-holding, place-holding, start-holding}
 
 -- ---- the rank rule
 
@@ -128,9 +128,8 @@ module _ (s : Supervisor) (m : Mode) (b : Option Battery) (l : List Began) (t : 
       rw (one-more s m b l t i) at (subst T q (eq→isMode a Terminated e))
 
   forward : (m ≡ Terminated → ⊥) → tickOf (s .flight) t .flight .fsm .mode ≡ Terminated → T (tumblingFor tumblingTicks (now ∷ l))
-  unfolding runawayEnough
   forward h e =
-      let u = enters h e in
+      let u : T (air && leb tumblingTicks (suc (run l))) = rw (enough-is (suc (run l))) at (enters h e) in
       let a : air ≡ true = is-true air (and-l air (leb tumblingTicks (suc (run l))) u) in
       let k = leb→le tumblingTicks (suc (run l)) (and-r air (leb tumblingTicks (suc (run l))) u) in
       let r : run (now ∷ l) ≡ suc (run l) = run-now s m b l t i ∙ rw a in

@@ -113,6 +113,11 @@ ticked-opened : (b : Option Battery) (x y : Battery) (t : Tick) (o : Bool) → y
 ticked-opened b x y t true e h = rw (h, e)
 ticked-opened b x y t false e h = rw h
 
+-- the supervisor's count is enough at demand 3's number
+pub enough-is : (n : ℕ) → runawayEnough n ≡ leb tumblingTicks n
+unfolding runawayEnough
+enough-is n = refl
+
 module _ (s : Supervisor) (m : Mode) (b : Option Battery) (l : List Began) (t : Tick) (i : Inv s m b l) where
   abbrev began-now : Began
   began-now = record { mode = m; tick = t }
@@ -141,11 +146,10 @@ module _ (s : Supervisor) (m : Mode) (b : Option Battery) (l : List Began) (t : 
       (isAirborneOf (s .flight .fsm .mode) && tiltedOf t) ≡ true
       → tumblingTicks ≤ suc (run l)
       → tickOf (s .flight) t .flight .fsm .mode ≡ Terminated
-  unfolding runawayEnough
   tick-terminates g h =
       let a : Mode = tickOf (s .flight) t .flight .fsm .mode in
       let q : leb tumblingTicks (suc (run l)) ≡ true = le-leb tumblingTicks (suc (run l)) h in
-      let e : isMode a Terminated ≡ true = tick-ends (s .flight) t ∙ rw (one-more, q, g) (or-true (isMode (s .flight .fsm .mode) Terminated)) in
+      let e : isMode a Terminated ≡ true = tick-ends (s .flight) t ∙ rw (one-more, enough-is (suc (run l)), q, g) (or-true (isMode (s .flight .fsm .mode) Terminated)) in
       isMode→eq a Terminated (subst T (sym e) tt)
 
   tick-capped :
