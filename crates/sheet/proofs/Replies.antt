@@ -5,19 +5,20 @@ use native.Mathlib.Omega.{arith}
 use native.Mathlib.Decide.{decLt}
 use mathlib.Core.Path.{_≡_, refl, sym, ap, _∙_}
 use mathlib.Core.List.{List, [], _∷_, _++_}
-use lib.ListN.{length, take, drop, length-append}
+use lib.ListN.{length, take, drop, length-take}
 use lib.Seq.{length-take-le, take-all, take-nil}
 use Rattle.falcon_core.specs.declared.state.Supervisor.{Supervisor}
 use Rattle.falcon_core.specs.Calls.{numbersOf}
 use Rattle.sheet.specs.declared.many.Progress.{Progress}
 use Rattle.sheet.specs.Field.{fieldWidth, put}
 use Rattle.sheet.specs.Line.{Reading, answerWidth, lineFields}
-use Rattle.sheet.specs.Lines.{newline, whole, lastLine, linesOf, together, answers, stream}
+use Rattle.sheet.specs.Lines.{newline, whole, joined, lastLine, linesOf, together, answers, stream}
 use Rattle.sheet.specs.Kinds.{answeredBy}
 use Rattle.sheet.specs.Entry.{askedBy, askedLine, replyOf}
 use Rattle.sheet.specs.Many.{afterLine, replyLine, replyWidth, fitting, replies, progressOf, answersOver}
 use Rattle.sheet.proofs.Answer.{numbers-count}
 use Rattle.sheet.proofs.LineAgain.{within-cut}
+use Rattle.sheet.proofs.LinesAgain.{used-most}
 use Rattle.sheet.proofs.LinesCut.{length-answers, stream-all}
 use Rattle.sheet.proofs.LinesTurns.{Going}
 use Rattle.sheet.proofs.Writing.{length-line}
@@ -126,3 +127,13 @@ last-answer s input out next q h e =
           ∙ ap (λ (n : ℕ). (replyLine s input ++ (newline ∷ [])) ++ drop n out) (zero-add (length (replyLine s input ++ (newline ∷ []))))
           ∙ ap (λ (ls : List (List ℕ)). answersOver s ls out) (sym one),
     )
+
+-- ---- what is read and written is no more than there is
+
+pub written-most : (s : Supervisor) (ls : List (List ℕ)) (out : List ℕ) → length (replies s (fitting ls out)) ≤ length out
+unfolding fitting
+written-most s ls out = omega (arith, length-replies s (take (length out / replyWidth) ls), length-take (length out / replyWidth) ls)
+
+pub read-most : (input out : List ℕ) → length (joined (fitting (whole input) out)) ≤ length input
+unfolding fitting
+read-most input out = used-most (length out / replyWidth) input

@@ -1,0 +1,129 @@
+-- The turns of `drain`: lines answered a buffer at a time. Assumes nothing.
+use Prim.Native.Nat.{ℕ, zero, suc, _+_, _/_, _≤_, _<_}
+use native.Mathlib.Nat.{zero-add, suc-add}
+use native.Mathlib.Omega.{arith}
+use mathlib.Core.Path.{_≡_, refl, sym, ap, _∙_}
+use mathlib.Core.List.{List, [], _∷_, _++_}
+use lib.ListN.{length, take, drop, length-take, length-drop, length-append}
+use lib.Seq.{take-all}
+use Rattle.falcon_core.specs.declared.state.Supervisor.{Supervisor}
+use Rattle.sheet.specs.declared.many.Progress.{Progress}
+use Rattle.sheet.specs.Lines.{whole, joined, statesAfter}
+use Rattle.sheet.specs.Many.{replyWidth, afterLine, fitting, replies, progressOf}
+use Rattle.sheet.proofs.LinesAgain.{joined-append, whole-most, whole-off, used-most}
+use Rattle.sheet.proofs.LinesCut.{states-append}
+use Rattle.sheet.proofs.Replies.{written-most}
+
+take-more : (ls : List (List ℕ)) (k n : ℕ) → take (k + n) ls ≡ take k ls ++ take n (drop k ls)
+take-more ls zero n = ap (λ (m : ℕ). take m ls) (zero-add n)
+take-more [] (suc k) n = ap (λ (m : ℕ). take m []) (suc-add k n) ∙ sym (take-none n)
+  where
+    take-none : (m : ℕ) → take {A = List ℕ} m [] ≡ []
+    take-none zero = refl
+    take-none (suc m) = refl
+take-more (l ∷ ls) (suc k) n = ap (λ (m : ℕ). take m (l ∷ ls)) (suc-add k n) ∙ ap (λ (t : List (List ℕ)). l ∷ t) (take-more ls k n)
+
+-- a list that is the first lines of another, by how many they are
+take-count : (ls : List (List ℕ)) (n : ℕ) → take (length (take n ls)) ls ≡ take n ls
+take-count ls zero = refl
+take-count [] (suc n) = refl
+take-count (l ∷ ls) (suc n) = ap (λ (t : List (List ℕ)). l ∷ t) (take-count ls n)
+
+-- the lines that fit hang on the buffer's length alone
+fitting-same : (ls : List (List ℕ)) (a b : List ℕ) → length a ≡ length b → fitting ls a ≡ fitting ls b
+unfolding fitting
+fitting-same ls a b e = ap (λ (n : ℕ). take (n / replyWidth) ls) e
+
+module _ (s₀ : Supervisor) (input : List ℕ) where
+  -- k lines are answered and written, and the next are in the buffer
+  pub record Drains (s : Supervisor) (used k : ℕ) (out : List ℕ) (p : Progress) : Type 0 where
+    pub state : s ≡ statesAfter afterLine s₀ (take k (whole input))
+    pub read : used ≡ length (joined (take k (whole input)))
+    pub most : k ≤ length (whole input)
+    pub room : replyWidth ≤ length out
+    pub next : p ≡ progressOf s (fitting (drop k (whole input)) out)
+
+  pub drains-first : (d out : List ℕ) (p : Progress) → replyWidth ≤ length d → length out ≡ length d → p ≡ progressOf s₀ (fitting (whole input) d)
+      → Drains s₀ 0 0 out p
+  unfolding statesAfter joined
+  drains-first d out p h e is =
+      record {
+        state = refl;
+        read = refl;
+        most = omega arith;
+        room = omega arith;
+        next = is ∙ ap (progressOf s₀) (fitting-same (whole input) d out (sym e));
+      }
+
+  module _ (s : Supervisor) (used k : ℕ) (out : List ℕ) (p : Progress) (g : Drains s used k out p) where
+    -- the lines in the buffer
+    now : List (List ℕ)
+    now = fitting (drop k (whole input)) out
+
+    some : take (k + length now) (whole input) ≡ take k (whole input) ++ now
+    unfolding now fitting
+    some = take-more (whole input) k (length now) ∙ ap (λ (t : List (List ℕ)). take k (whole input) ++ t) (take-count (drop k (whole input)) (length out / replyWidth))
+
+    lines-are : p .lines ≡ length now
+    unfolding now progressOf
+    lines-are = ap (λ (q : Progress). q .lines) (g .next)
+
+    pub written-fits : p .written ≤ length out
+    unfolding progressOf
+    written-fits =
+        let e : p .written ≡ length (replies s (fitting (drop k (whole input)) out)) = ap (λ (q : Progress). q .written) (g .next) in
+        omega (arith, written-most s (drop k (whole input)) out)
+
+    pub lines-most : k + p .lines ≤ length (whole input)
+    lines-most =
+        let e : length (take (k + length now) (whole input)) ≡ length (take k (whole input)) + length now = ap length some ∙ length-append (take k (whole input)) now in
+        omega (arith, lines-are, g .most, length-take (k + length now) (whole input), length-take k (whole input))
+
+    read-is : used + p .used ≡ length (joined (take (k + p .lines) (whole input)))
+    unfolding now progressOf
+    read-is =
+        let e : p .used ≡ length (joined now) = ap (λ (q : Progress). q .used) (g .next) in
+        let n : length (joined (take k (whole input) ++ now)) ≡ length (joined (take k (whole input))) + length (joined now) =
+        ap length (joined-append (take k (whole input)) now) ∙ length-append (joined (take k (whole input))) (joined now) in
+        omega (arith, g .read)
+        ∙ sym n
+        ∙ ap (λ (ls : List (List ℕ)). length (joined ls)) (sym some)
+        ∙ ap (λ (n : ℕ). length (joined (take (k + n) (whole input)))) (sym lines-are)
+
+    pub used-fits : used + p .used ≤ length input
+    used-fits = omega (arith, read-is, used-most (k + p .lines) input)
+
+    pub lines-fit : k + p .lines ≤ length input
+    lines-fit = omega (arith, lines-most, whole-most input)
+
+    pub drains-next : (d : List ℕ) (q : Progress) → length d ≡ length out → q ≡ progressOf (p .supervisor) (fitting (whole (drop (used + p .used) input)) out)
+        → Drains (p .supervisor) (used + p .used) (k + p .lines) d q
+    unfolding now progressOf
+    drains-next d q e is =
+        record {
+          state =
+              ap (λ (r : Progress). r .supervisor) (g .next)
+              ∙ ap (λ (t : Supervisor). statesAfter afterLine t now) (g .state)
+              ∙ sym (states-append afterLine s₀ (take k (whole input)) now)
+              ∙ ap (statesAfter afterLine s₀) (sym some)
+              ∙ ap (λ (n : ℕ). statesAfter afterLine s₀ (take (k + n) (whole input))) (sym lines-are);
+          read = read-is;
+          most = lines-most;
+          room = omega (arith, g .room);
+          next =
+              is
+              ∙ ap (progressOf (p .supervisor)) (fitting-same (whole (drop (used + p .used) input)) out d (sym e))
+              ∙ ap (λ (n : ℕ). progressOf (p .supervisor) (fitting (whole (drop n input)) d)) read-is
+              ∙ ap (λ (ls : List (List ℕ)). progressOf (p .supervisor) (fitting ls d)) (whole-off (k + p .lines) input);
+        }
+
+    -- no line is in the buffer: all are answered
+    all-done : p .lines ≤ 0 → take k (whole input) ≡ whole input
+    unfolding now fitting
+    all-done h =
+        take-all k (whole input)
+        (omega (arith, lines-are, g .room, g .most, length-take (length out / replyWidth) (drop k (whole input)), length-drop k (whole input)))
+
+    pub drains-last : p .lines ≤ 0 → (s ≡ statesAfter afterLine s₀ (whole input)) × (used ≡ length (joined (whole input)))
+    drains-last h =
+        (g .state ∙ ap (statesAfter afterLine s₀) (all-done h), g .read ∙ ap (λ (ls : List (List ℕ)). length (joined ls)) (all-done h))
