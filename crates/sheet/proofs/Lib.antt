@@ -14,3 +14,4 @@ pub mod CallSeen
 pub mod PlaceHolds
 pub mod DemandThree
 pub mod Replies
+mod ListExamples

@@ -1,0 +1,129 @@
+-- Lists of calls computed through the whole definition: demand 3's rules speak of something. No proof cites this file.
+use Prim.Native.Nat.{ℕ, zero, suc}
+use mathlib.Core.Bool.{Bool, true, false}
+use mathlib.Core.List.{List, [], _∷_, _++_}
+use mathlib.Core.Path.{_≡_, refl}
+use lib.ListN.{replicate}
+use lib.Ieee.{Float, binary32, ofBits}
+use Rattle.relay_fsm.specs.declared.Event.the-variants.{Arm, RequestTakeoff}
+use Rattle.relay_fsm.specs.Mode.{modeNumber}
+use Rattle.relay_batt.specs.declared.battery.Reading.{Reading}
+use Rattle.relay_batt.specs.declared.battery.Reading.the-variants.{Nothing, Volts}
+use Rattle.falcon_core.specs.declared.state.Tick.{Tick}
+use Rattle.falcon_core.specs.declared.state.Opening.{Opening}
+use Rattle.falcon_core.specs.State.{pointOf, origin, zerof}
+use Rattle.falcon_core.specs.Calls.{opens, ticks, reports, commands, points}
+use lib.Ieee.{add, sub, mul, div, neg, lt, eq, le, ne, ofInt, round, units, isNan, size, toBits}
+use Rattle.relay_math.specs.Root.{rootBy, wholeRoot, radicand, dropped, rounded, ranged, rootOf}
+use Rattle.relay_math.specs.Small.{maxOf, clampOf}
+use Rattle.relay_fsm.specs.Event.{eventAt}
+use Rattle.relay_fsm.specs.Fsm.{rowOf, onOf}
+use Rattle.relay_preflight.specs.Check.{allChecks}
+use Rattle.relay_preflight.specs.Table.{bitOf, withBitOf, setOf, legacyPassedOf, failsOf, failingMaskOf, outstandingOf}
+use Rattle.relay_preflight.specs.Verdict.{firstIn, firstBlockerOf}
+use Rattle.relay_batt.specs.Battery.{openedOf, heardOf, updateOf, lostOf, runOf}
+use Rattle.relay_batt.specs.Config.{defaultOf, forOpeningVoltsOf, capacityOf, cellsOf}
+use Rattle.relay_batt.specs.Curve.{sanitizeOf, knots, walk, tableOf, ocvSocCellOf}
+use Rattle.relay_batt.specs.Estimator.{noneOf, shownOf, newOf, resetOf, consumedOf, bigStepOf, blendOf, rEstOf, restOf, socCoulombOf, socOf, withAmpsOf, voltsOnlyOf, updateAmpsOf, updateVoltsOf}
+use Rattle.relay_batt.specs.Latch.{tripOf}
+use Rattle.falcon_core.specs.Calls.{refusalOf, commandedBy, afterOf, outputOf, answerOf, refusedOf, acceptedOf, stepOf, numbersOf}
+use Rattle.falcon_core.specs.Failsafe.{clearedOf, breachOf, breachGives, breachedOf, tiltedOf, runawayEnough, runawayCounted, runawayGives, runawayOf, gustyOf, windEnough, windCounted, windGives, windOf, reportedOf}
+use Rattle.falcon_core.specs.Geometry.{lengthOf, distanceOf}
+use Rattle.falcon_core.specs.Hold.{horizSpeedOf, brakePointOf, enteredOf, restOf as holdRestOf, brakedOf, leftOf, keptOf, heldOf}
+use Rattle.falcon_core.specs.Milestone.{heightOf, highOf, nearHomeOf, nearGroundOf, distance3Of, arrivedOf, milestoneGives, legOf, advancedOf, milestoneOf}
+use Rattle.falcon_core.specs.Mission.{waypointAdmissibleOf, pointAtOf, triedOf, allAdmissibleOf, storedOf, loadedOf, waypointAtOf, currentWaypointOf}
+use Rattle.falcon_core.specs.Preflight.{outsideGeofenceOf, geofenceSaneOf, navRowsOf, integrityRowsOf, readinessRowsOf, updatePreflightOf, escTelemetryOf}
+use Rattle.falcon_core.specs.Setpoint.{landingOf, setpointOf, commandedOf}
+use Rattle.falcon_core.specs.State.{openedOf as stateOpenedOf, unopened}
+use Rattle.falcon_core.specs.Tick.{checkedOf, poweredOf, telemetryOf, sensedOf, afterBreach, afterRunaway, afterWind, afterMilestone, holdingOf, answeredOf, tickOf, givenOf}
+use Rattle.falcon_core.specs.Zones.{goalOf, bearingOf, alongOf, perpOf, obstructsOf, threatensOf, tangentOf, urgencyOf, ringOf, deflectedOf, aroundOf, aroundAllOf, avoidOf, zoneAtOf, keptOf as zonesKeptOf, storedZonesOf, loadedZonesOf}
+use Rattle.sheet.specs.Entry.{askedLine, askedWith, lineStep, replyOf, bufferAfter}
+use Rattle.sheet.specs.Field.{inRange, digits, start as fieldStart, spaced, readField, column, columns, fieldOf, put}
+use Rattle.sheet.specs.Kinds.{openingFrom, openingLine, readingFrom, batteryOk, tickFrom, tickOk, tickLine, reportLine, commandLine, pointsLine, zonesLine, requestOf}
+use Rattle.sheet.specs.Line.{onto, before, fields, lengthOk, readWithin, lineOf, readingOf}
+use Rattle.sheet.specs.Lists.{callStep, taken, nextPlace, placeFrom, start, calmFrom, ticksFrom}
+use Rattle.sheet.specs.Lists.{Call, byValues, byLine, Place, latchOf}
+
+-- home 0, fence 100, cruise 10, opening volts 14
+opening : Call
+opening =
+    byValues
+    (opens
+    (record {
+      home = origin;
+      «fence_radius» = ofBits binary32 0x42c8_0000;
+      «cruise_alt» = ofBits binary32 0x4120_0000;
+      «low_batt_v» = ofBits binary32 0x4160_0000;
+      required = 0;
+      passed = 0;
+      «calibration_configured» = false;
+    }))
+
+-- a tick of one second, ten metres north of home and five up
+tick : Float → Reading → Call
+tick tilt reading =
+    byValues
+    (ticks
+    (record {
+      dt = ofBits binary32 0x3f80_0000;
+      p = pointOf (ofBits binary32 0x4120_0000) zerof (ofBits binary32 0xc0a0_0000);
+      v = origin;
+      tilt = tilt;
+      «tilt_uncertainty» = zerof;
+      «max_motor» = zerof;
+      «nav_compromised» = false;
+      «gnss_diverged» = false;
+      «failed_motor» = false;
+      «motor_rpm» = false;
+      reading = reading;
+    }))
+
+-- one volt for four cells
+flat : Call
+flat = tick zerof (Volts (ofBits binary32 0x3f80_0000))
+
+-- tilt 1.5
+tilted : Call
+tilted = tick (ofBits binary32 0x3fc0_0000) Nothing
+
+quiet : Call
+quiet = byValues (reports false)
+
+-- opened, armed and taking off; then a list of points that is refused and a line of no kind
+flying : List Call
+flying =
+    opening
+    ∷ byValues (commands Arm true true)
+    ∷ byValues (commands RequestTakeoff true true)
+    ∷ byValues (points (zerof ∷ zerof ∷ []))
+    ∷ byLine (49 ∷ 50 ∷ []) (replicate 110 0)
+    ∷ []
+
+-- the modes after each call
+modes : Place → List Call → List ℕ
+modes p [] = []
+modes p (c ∷ l) = modeNumber (nextPlace p c .mode) ∷ modes (nextPlace p c) l
+
+-- the critical battery latch after each call
+latches : Place → List Call → List Bool
+latches p [] = []
+latches p (c ∷ l) = latchOf (nextPlace p c .battery) ∷ latches (nextPlace p c) l
+
+-- n tilted ticks, each with its report
+tumble : ℕ → List Call
+tumble zero = []
+tumble (suc n) = tilted ∷ quiet ∷ tumble n
+
+-- the last of a list
+final : ℕ → List ℕ → ℕ
+final m [] = m
+final m (n ∷ l) = final n l
+
+-- the critical battery is seen to Rtl and then to Land, with the latch set from the second flat tick on; 49 tilted ticks fly on in Takeoff, 50 end in Terminated
+seen-in-lists :
+    (modes start (flying ++ (flat ∷ quiet ∷ flat ∷ quiet ∷ flat ∷ [])) ≡ 0 ∷ 1 ∷ 2 ∷ 2 ∷ 2 ∷ 2 ∷ 2 ∷ 6 ∷ 6 ∷ 5 ∷ [])
+    × (latches start (flying ++ (flat ∷ quiet ∷ flat ∷ [])) ≡ false ∷ false ∷ false ∷ false ∷ false ∷ false ∷ false ∷ true ∷ [])
+    × (final 0 (modes start (flying ++ tumble 49)) ≡ 2)
+    × (final 0 (modes start (flying ++ tumble 50)) ≡ 7)
+unfolding opening tick flat tilted quiet flying modes latches tumble final rootBy wholeRoot radicand dropped rounded ranged rootOf maxOf clampOf eventAt rowOf onOf allChecks bitOf withBitOf setOf legacyPassedOf failsOf failingMaskOf outstandingOf firstIn firstBlockerOf openedOf heardOf updateOf lostOf runOf defaultOf forOpeningVoltsOf capacityOf cellsOf sanitizeOf knots walk tableOf ocvSocCellOf noneOf shownOf newOf resetOf consumedOf bigStepOf blendOf rEstOf restOf socCoulombOf socOf withAmpsOf voltsOnlyOf updateAmpsOf updateVoltsOf tripOf refusalOf commandedBy afterOf outputOf answerOf refusedOf acceptedOf stepOf numbersOf clearedOf breachOf breachGives breachedOf tiltedOf runawayEnough runawayCounted runawayGives runawayOf gustyOf windEnough windCounted windGives windOf reportedOf lengthOf distanceOf horizSpeedOf brakePointOf enteredOf holdRestOf brakedOf leftOf keptOf heldOf heightOf highOf nearHomeOf nearGroundOf distance3Of arrivedOf milestoneGives legOf advancedOf milestoneOf waypointAdmissibleOf pointAtOf triedOf allAdmissibleOf storedOf loadedOf waypointAtOf currentWaypointOf outsideGeofenceOf geofenceSaneOf navRowsOf integrityRowsOf readinessRowsOf updatePreflightOf escTelemetryOf landingOf setpointOf commandedOf stateOpenedOf unopened checkedOf poweredOf telemetryOf sensedOf afterBreach afterRunaway afterWind afterMilestone holdingOf answeredOf tickOf givenOf goalOf bearingOf alongOf perpOf obstructsOf threatensOf tangentOf urgencyOf ringOf deflectedOf aroundOf aroundAllOf avoidOf zoneAtOf zonesKeptOf storedZonesOf loadedZonesOf askedLine askedWith lineStep replyOf bufferAfter inRange digits fieldStart spaced readField column columns fieldOf put openingFrom openingLine readingFrom batteryOk tickFrom tickOk tickLine reportLine commandLine pointsLine zonesLine requestOf onto before fields lengthOk readWithin lineOf readingOf callStep taken nextPlace placeFrom start calmFrom ticksFrom add sub mul div neg lt eq le ne ofBits ofInt round units isNan size toBits
+seen-in-lists = (refl, refl, refl, refl)
