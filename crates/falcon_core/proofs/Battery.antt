@@ -14,7 +14,8 @@ use Rattle.falcon_core.specs.State.{openedOf, unopened}
 use Rattle.falcon_core.specs.Calls.{Request, opens, ticks, reports, commands, points, zones, commandedBy, refusalOf, afterOf}
 use Rattle.falcon_core.specs.Sound.{runOf}
 use Rattle.falcon_core.proofs.Refused.{run-keeps}
-use Rattle.falcon_core.proofs.Parts.{reported-keeps, tick-config, tick-battery}
+use Rattle.falcon_core.proofs.Parts.{reported-keeps}
+use Rattle.falcon_core.proofs.Stages.{tick-config, tick-battery}
 use Rattle.falcon_core.proofs.Invariant.{reachable-sound}
 
 -- the estimator's configuration is what the opening's volts give

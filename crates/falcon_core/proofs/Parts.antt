@@ -1,54 +1,37 @@
 -- What a tick leaves of each part of the state, and which calls leave the configuration.
 use mathlib.Core.Bool.{Bool, true, false, cond, not}
-use mathlib.Core.Path.{_≡_, refl, ap, subst}
+use mathlib.Core.Path.{_≡_, refl, subst}
 use mathlib.Core.List.{List}
 use lib.Dec.{T}
 use lib.Ieee.{Float}
 use Rattle.relay_fsm.specs.declared.Event.the-variants.{Failsafe}
 use Rattle.relay_fsm.specs.Fsm.{onOf}
-use Rattle.relay_batt.specs.Battery.{updateOf}
 use Rattle.falcon_core.specs.declared.state.Tick.{Tick}
 use Rattle.falcon_core.specs.declared.state.FlightSupervisor.{FlightSupervisor}
 use Rattle.falcon_core.specs.declared.state.Supervisor.{Supervisor}
 use Rattle.falcon_core.specs.State.{withMode, withMission, withMotors}
 use Rattle.falcon_core.specs.Mission.{loadedOf}
 use Rattle.falcon_core.specs.Setpoint.{motorsOffOf}
-use Rattle.falcon_core.specs.Failsafe.{clearedOf, breachedOf, withoutPosition, motorLost, runawayOf, windOf, reportedOf}
-use Rattle.falcon_core.specs.Milestone.{milestoneOf}
-use Rattle.falcon_core.specs.Tick.{checkedOf, poweredOf, telemetryOf, sensedOf, afterBreach, afterRunaway, afterWind, afterMilestone, holdingOf, answeredOf, tickOf}
+use Rattle.falcon_core.specs.Failsafe.{withoutPosition, motorLost, reportedOf}
+use Rattle.falcon_core.specs.Tick.{afterMilestone, holdingOf, answeredOf, tickOf}
 use Rattle.falcon_core.specs.Calls.{Request, opens, ticks, reports, commands, points, zones, isOpening, dueAfter, commandedBy, refusalOf, afterOf, acceptedOf, stepOf}
 use Rattle.falcon_core.proofs.Answers.{step-accepted}
+use Rattle.falcon_core.proofs.Stages.{answered-flight, tick-config}
 use Rattle.falcon_core.proofs.Refused.{step-keeps}
 
-module _ (f : FlightSupervisor) (t : Tick) where
-  answered-by : (off : Bool) → motorsOffOf (f .fsm .mode) ≡ off
-      → (answeredOf f t .flight ≡ withMotors f off) × (dueAfter (answeredOf f t .answer) ≡ not off)
-  unfolding answeredOf
-  answered-by true e = (rw e, rw e)
-  answered-by false e = (rw e, rw e)
-
--- the answer's paragraph changes only whether the motors were off
-pub answered-flight : (f : FlightSupervisor) (t : Tick) → answeredOf f t .flight ≡ withMotors f (motorsOffOf (f .fsm .mode))
-answered-flight f t = answered-by f t (motorsOffOf (f .fsm .mode)) refl .0
+answered-by : (f : FlightSupervisor) (t : Tick) (off : Bool) → motorsOffOf (f .fsm .mode) ≡ off → dueAfter (answeredOf f t .answer) ≡ not off
+unfolding answeredOf
+answered-by f t true e = rw e
+answered-by f t false e = rw e
 
 -- a report is due exactly where the motors are not off
 pub answered-due : (f : FlightSupervisor) (t : Tick) → dueAfter (answeredOf f t .answer) ≡ not (motorsOffOf (f .fsm .mode))
-answered-due f t = answered-by f t (motorsOffOf (f .fsm .mode)) refl .1
+answered-due f t = answered-by f t (motorsOffOf (f .fsm .mode)) refl
 
 -- the flight after a tick
 pub tick-flight : (f : FlightSupervisor) (t : Tick) → tickOf f t .flight ≡ withMotors (holdingOf (afterMilestone f t) t) (motorsOffOf (afterMilestone f t .fsm .mode))
 unfolding tickOf holdingOf
 tick-flight f t = answered-flight (holdingOf (afterMilestone f t) t) t
-
--- the configuration stays
-pub tick-config : (f : FlightSupervisor) (t : Tick) → tickOf f t .flight .config ≡ f .config
-unfolding holdingOf afterMilestone milestoneOf afterWind windOf afterRunaway runawayOf afterBreach breachedOf sensedOf telemetryOf poweredOf checkedOf clearedOf
-tick-config f t = ap (λ (g : FlightSupervisor). g .config) (tick-flight f t)
-
--- the battery has the tick's reading
-pub tick-battery : (f : FlightSupervisor) (t : Tick) → tickOf f t .flight .battery ≡ updateOf (f .battery) (t .dt) (t .reading)
-unfolding holdingOf afterMilestone milestoneOf afterWind windOf afterRunaway runawayOf afterBreach breachedOf sensedOf telemetryOf poweredOf checkedOf clearedOf
-tick-battery f t = ap (λ (g : FlightSupervisor). g .battery) (tick-flight f t)
 
 pub cond-keeps : {A : Type 0} (P : A → Type 0) (b : Bool) (x y : A) → P x → P y → P (cond b x y)
 cond-keeps P true x y h k = h

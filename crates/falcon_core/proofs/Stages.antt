@@ -20,7 +20,8 @@ use Rattle.falcon_core.specs.Setpoint.{motorsOffOf}
 use Rattle.falcon_core.specs.Tick.{checkedOf, poweredOf, telemetryOf, sensedOf, afterBreach, afterRunaway, afterWind, afterMilestone, holdingOf, answeredOf, tickOf}
 use Rattle.falcon_core.specs.Calls.{allowedOf, commandedBy}
 
-answered-flight : (f : FlightSupervisor) (t : Tick) → answeredOf f t .flight ≡ withMotors f (motorsOffOf (f .fsm .mode))
+-- the answer's paragraph changes only whether the motors were off
+pub answered-flight : (f : FlightSupervisor) (t : Tick) → answeredOf f t .flight ≡ withMotors f (motorsOffOf (f .fsm .mode))
 unfolding answeredOf
 answered-flight f t = go (motorsOffOf (f .fsm .mode)) refl
   where
