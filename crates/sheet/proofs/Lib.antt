@@ -11,3 +11,4 @@ pub mod Asking
 mod Floats
 pub mod Writing
 pub mod Replies
+pub mod Sheets
