@@ -15,3 +15,4 @@ pub mod PlaceHolds
 pub mod DemandThree
 pub mod Replies
 mod ListExamples
+pub mod Sheets

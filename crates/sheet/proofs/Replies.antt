@@ -137,3 +137,12 @@ written-most s ls out = omega (arith, length-replies s (take (length out / reply
 pub read-most : (input out : List ℕ) → length (joined (fitting (whole input) out)) ≤ length input
 unfolding fitting
 read-most input out = used-most (length out / replyWidth) input
+
+module _ (s : Supervisor) (input out : List ℕ) (p : Progress) (is : p ≡ progressOf s (fitting (whole input) out)) where
+  pub progress-written : p .written ≤ length out
+  unfolding progressOf
+  progress-written = omega (arith, ap (λ (q : Progress). q .written) is, written-most s (whole input) out)
+
+  pub progress-used : p .used ≤ length input
+  unfolding progressOf
+  progress-used = omega (arith, ap (λ (q : Progress). q .used) is, read-most input out)

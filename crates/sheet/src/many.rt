@@ -4,8 +4,9 @@ ghost use Prim.Native.Nat.{_+_, _-_, _≤_};
 ghost use mathlib.Core.Path.{_≡_};
 ghost use mathlib.Core.List.{_++_, _∷_, []};
 ghost use lib.ListN.{length, take, drop};
+ghost use Rattle.falcon_core.specs.State.{unopened};
 ghost use Rattle.sheet.specs.Field.{put};
-ghost use Rattle.sheet.specs.Lines.{newline, whole, lastLine};
+ghost use Rattle.sheet.specs.Lines.{newline, whole, lastLine, linesOf};
 ghost use Rattle.sheet.specs.Many.{afterLine, replyLine, replyWidth, fitting, replies, progressOf, answersOver};
 use crate::entry::answer;
 use crate::line::ANSWER;
@@ -90,4 +91,22 @@ pub fn answer_last(s: Supervisor, input: &[u8], out: &mut [u8]) -> usize
     }
     answer_at(s, input, 0, end, out, 0);
     REPLY
+}
+
+// Answers a sheet from the state with no opening, as many of its lines as fit the buffer. Answers how many bytes were written.
+pub fn answer_sheet(input: &[u8], out: &mut [u8]) -> usize
+    ensures written { λ r. ⌜ r ≡ length (replies unopened (fitting (linesOf (now (input .entry))) (now (out .entry)))) ⌝ }
+    ensures buffer { λ _. ⌜ now (out .exit) ≡ answersOver unopened (fitting (linesOf (now (input .entry))) (now (out .entry))) (now (out .entry)) ⌝ }
+    ensures unchanged { λ _. ⌜ now (input .exit) ≡ now (input .entry) ⌝ }
+{
+    let s = Supervisor::new();
+    let progress = answer_lines(s, input, out);
+    let supervisor = progress.supervisor;
+    let used = progress.used;
+    let written = progress.written;
+    if out.len() - written < REPLY {
+        return written;
+    }
+    let last = answer_last(supervisor, &input[used..], &mut out[written..]);
+    written + last
 }

@@ -1,0 +1,94 @@
+// Answers document 01's examples, the harness's cases and a sample of generated sheets, which standard input has one after the other.
+
+ghost use Prim.Native.Nat.{_≤_};
+ghost use mathlib.Core.Path.{_≡_};
+ghost use lib.ListN.{length};
+use falcon_core::state::Supervisor;
+use libc::STDIN_FILENO;
+use libc::STDOUT_FILENO;
+use sheet::entry::answer;
+use sheet::field::FIELD;
+use sheet::field::FieldRead;
+use sheet::field::read_field_of;
+use sheet::many::answer_sheet;
+
+// The columns of a sheet's name.
+const NAME: usize = 52;
+
+// The bytes before each sheet: its name, its length in a field, and a newline.
+const HEAD: usize = NAME + FIELD + 1;
+
+// 131,072 zeros.
+fn buffer() -> [u8; 131072]
+    ensures { λ r. ⌜ 131072 ≡ length r ⌝ }
+{
+    [0; 131072]
+}
+
+// Answers a sheet, with no opening yet, on standard output.
+fn write_answers(sheet: &[u8], out: &mut [u8]) {
+    let n = answer_sheet(sheet, out);
+    io::write_all(STDOUT_FILENO, &out[..n]);
+}
+
+// The length of the sheet that follows, or 0 where the bytes before it say none.
+fn length_in(head: &[u8]) -> usize {
+    if head.len() < HEAD {
+        return 0;
+    }
+    let end = NAME + FIELD;
+    let FieldRead::Number(count) = read_field_of(&head[NAME..end]) else {
+        return 0;
+    };
+    count as usize
+}
+
+// Reads a sheet of n bytes, and writes its answers behind its name. Answers whether the sheet was there.
+fn replay(head: &[u8], n: usize, sheet: &mut [u8], out: &mut [u8]) -> bool {
+    if sheet.len() < n {
+        return false;
+    }
+    let got = io::read_full(STDIN_FILENO, &mut sheet[..n]);
+    if got != n {
+        return false;
+    }
+    io::write_all(STDOUT_FILENO, head);
+    write_answers(&sheet[..n], out);
+    true
+}
+
+// One sheet. Answers whether there was one.
+fn replay_next(head: &mut [u8], sheet: &mut [u8], out: &mut [u8]) -> bool {
+    let got = io::read_full(STDIN_FILENO, head);
+    if got != HEAD {
+        return false;
+    }
+    let n = length_in(head);
+    replay(head, n, sheet, out)
+}
+
+// Every sheet. A proved loop has to end, so it counts its turns down.
+fn replay_all(head: &mut [u8], sheet: &mut [u8], out: &mut [u8]) {
+    let mut turns = u64::MAX;
+    while turns > 0 && replay_next(head, sheet, out) {
+        turns -= 1;
+    }
+}
+
+// Refusal 9's example, a buffer of 109 bytes: its number, and the buffer as it was.
+fn short_buffer() {
+    let mut out = [b'?'; 109];
+    let outcome = answer(Supervisor::new(), b"12", &mut out);
+    io::print_decimal(STDOUT_FILENO, outcome.refusal as u64);
+    io::write_all(STDOUT_FILENO, b"\n");
+    io::write_all(STDOUT_FILENO, &out);
+    io::write_all(STDOUT_FILENO, b"\n");
+}
+
+fn main() {
+    let mut head = [0u8; HEAD];
+    let mut sheet = buffer();
+    let mut out = buffer();
+    short_buffer();
+    replay_all(&mut head, &mut sheet, &mut out);
+}
