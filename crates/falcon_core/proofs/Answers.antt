@@ -7,16 +7,16 @@ use mathlib.Core.Path.{_≡_, sym, _∙_}
 use lib.Dec.{eqb, eqb·suc-zero}
 use lib.ListN.{length}
 use lib.Ieee.{Float}
-use Rattle.falcon_core.specs.declared.state.Tick.{Tick}
+use Rattle.falcon_guidance.specs.declared.state.Tick.{Tick}
 use Rattle.falcon_core.specs.declared.state.Supervisor.{Supervisor}
-use Rattle.falcon_core.specs.declared.tick.Ticked.{Ticked}
+use Rattle.falcon_flight.specs.declared.tick.Ticked.{Ticked}
 use Rattle.falcon_core.specs.declared.calls.Output.the-variants.{Nothing, Ticks}
-use Rattle.falcon_core.specs.declared.state.Mission.{Mission}
-use Rattle.falcon_core.specs.State.{withMission, withZones}
-use Rattle.falcon_core.specs.Mission.{triedOf, allAdmissibleOf, loadedOf}
-use Rattle.falcon_core.specs.declared.state.Zones.{Zones}
-use Rattle.falcon_core.specs.Zones.{loadedZonesOf}
-use Rattle.falcon_core.specs.Tick.{tickOf}
+use Rattle.falcon_guidance.specs.declared.state.Mission.{Mission}
+use Rattle.falcon_failsafe.specs.State.{withMission, withZones}
+use Rattle.falcon_guidance.specs.Mission.{triedOf, allAdmissibleOf, loadedOf}
+use Rattle.falcon_guidance.specs.declared.state.Zones.{Zones}
+use Rattle.falcon_guidance.specs.Zones.{loadedZonesOf}
+use Rattle.falcon_flight.specs.Tick.{tickOf}
 use Rattle.falcon_core.specs.Calls.{Request, ticks, points, zones, dueAfter, refusalOf, afterOf, outputOf, refusedOf, acceptedOf, stepOf}
 
 -- a refusal that fits is answered and keeps the state
@@ -42,18 +42,17 @@ tick-accepted s t k due ek ed o d = let h : refusalOf s (ticks t) ≡ 0 = simp (
 
 -- an accepted list, from what its parts are
 pub points-accepted :
-    (s : Supervisor) (l : List Float) (m : Mission) (n : ℕ) (ok : Bool) →
+    (s : Supervisor) (l : List Float) (m : Mission) (ok : Bool) →
     m ≡ loadedOf l →
-    n ≡ triedOf l →
-    ok ≡ allAdmissibleOf (s .flight .config) l n →
+    ok ≡ allAdmissibleOf (s .flight .config) l (triedOf l) →
     eqb (length l % 3) 0 ≡ true →
     not (s .opened) ≡ false →
     s .«report_due» ≡ false →
     not ok ≡ false →
     acceptedOf (record { flight = withMission (s .flight) m; opened = s .opened; «report_due» = s .«report_due» }) Nothing ≡ stepOf s (points l)
 unfolding refusalOf afterOf outputOf
-points-accepted s l m n ok em en eo c o d b =
-    let a : allAdmissibleOf (s .flight .config) l (triedOf l) ≡ true = simp en at (sym eo ∙ not-false ok b) in
+points-accepted s l m ok em eo c o d b =
+    let a : allAdmissibleOf (s .flight .config) l (triedOf l) ≡ true = sym eo ∙ not-false ok b in
     let h : refusalOf s (points l) ≡ 0 = simp (c, o, d, a) in
     rw (step-accepted s (points l) h, em)
 

@@ -8,9 +8,10 @@ use Rattle.relay_batt.specs.Bounds.{Within}
 use Rattle.relay_batt.specs.Config.{capacityOf, capacityMah, forOpeningVoltsOf}
 use Rattle.relay_batt.specs.Sound.{Sound as SoundBattery, InBounds}
 use Rattle.relay_batt.proofs.Sound.{update-cfg, opened-cfg, capacity-opening}
-use Rattle.falcon_core.specs.declared.state.FlightSupervisor.{FlightSupervisor}
+use Rattle.falcon_failsafe.specs.declared.state.FlightSupervisor.{FlightSupervisor}
 use Rattle.falcon_core.specs.declared.state.Supervisor.{Supervisor}
-use Rattle.falcon_core.specs.State.{openedOf, unopened}
+use Rattle.falcon_failsafe.specs.State.{openedOf}
+use Rattle.falcon_core.specs.State.{unopened}
 use Rattle.falcon_core.specs.Calls.{Request, opens, ticks, reports, commands, points, zones, commandedBy, refusalOf, afterOf}
 use Rattle.falcon_core.specs.Sound.{runOf}
 use Rattle.falcon_core.proofs.Refused.{run-keeps}

@@ -7,14 +7,14 @@ use lib.Dec.{T}
 use Rattle.relay_fsm.specs.declared.Mode.{Mode}
 use Rattle.relay_fsm.specs.declared.Mode.the-variants.{Disarmed, Armed, Takeoff, Loiter, Mission, Land, Rtl, Terminated}
 use Rattle.relay_fsm.specs.Mode.{isAirborneOf}
-use Rattle.falcon_core.specs.declared.state.Tick.{Tick}
-use Rattle.falcon_core.specs.declared.state.FlightSupervisor.{FlightSupervisor}
+use Rattle.falcon_guidance.specs.declared.state.Tick.{Tick}
+use Rattle.falcon_failsafe.specs.declared.state.FlightSupervisor.{FlightSupervisor}
 use Rattle.falcon_core.specs.declared.state.Supervisor.{Supervisor}
-use Rattle.falcon_core.specs.declared.tick.TickAnswer.{TickAnswer}
-use Rattle.falcon_core.specs.declared.tick.TickAnswer.the-variants.{MotorsOff, Setpoint}
+use Rattle.falcon_flight.specs.declared.tick.TickAnswer.{TickAnswer}
+use Rattle.falcon_flight.specs.declared.tick.TickAnswer.the-variants.{MotorsOff, Setpoint}
 use Rattle.falcon_core.specs.State.{unopened}
-use Rattle.falcon_core.specs.Setpoint.{motorsOffOf}
-use Rattle.falcon_core.specs.Tick.{afterMilestone, holdingOf, tickOf}
+use Rattle.falcon_flight.specs.Setpoint.{motorsOffOf}
+use Rattle.falcon_flight.specs.Tick.{afterMilestone, holdingOf, tickOf}
 use Rattle.falcon_core.specs.Calls.{Request, opens, ticks, reports, commands, points, zones, dueAfter, refusalOf, afterOf, outputOf, answerOf, acceptedOf, stepOf}
 use Rattle.falcon_core.specs.Sound.{runOf, reportDueAfter}
 use Rattle.falcon_core.proofs.Answers.{step-accepted}

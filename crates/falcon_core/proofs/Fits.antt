@@ -11,18 +11,20 @@ use Rattle.relay_fsm.specs.declared.Mode.{Mode}
 use Rattle.relay_batt.specs.Config.{forOpeningVoltsOf}
 use Rattle.relay_batt.specs.Fits.{Fit}
 use Rattle.relay_batt.proofs.Fits.{fits-update, fits-new, fits-opening}
-use Rattle.falcon_core.specs.declared.state.Hold.{Hold}
-use Rattle.falcon_core.specs.declared.state.Opening.{Opening}
-use Rattle.falcon_core.specs.declared.state.Tick.{Tick}
-use Rattle.falcon_core.specs.declared.state.FlightSupervisor.{FlightSupervisor}
+use Rattle.falcon_guidance.specs.declared.state.Hold.{Hold}
+use Rattle.falcon_failsafe.specs.declared.state.Opening.{Opening}
+use Rattle.falcon_guidance.specs.declared.state.Tick.{Tick}
+use Rattle.falcon_failsafe.specs.declared.state.FlightSupervisor.{FlightSupervisor}
 use Rattle.falcon_core.specs.declared.state.Supervisor.{Supervisor}
-use Rattle.falcon_core.specs.State.{zerof, origin, noZone, nowhere, maxWaypoints, maxKeepoutZones, openedOf, unopened}
-use Rattle.falcon_core.specs.Mission.{pointAtOf, triedOf, loadedOf}
-use Rattle.falcon_core.specs.Zones.{noPlace, zoneAtOf, keptOf as keptZonesOf, loadedZonesOf}
-use Rattle.falcon_core.specs.Failsafe.{clearedOf, breachedOf, runawayOf, windOf}
-use Rattle.falcon_core.specs.Milestone.{milestoneOf}
-use Rattle.falcon_core.specs.Hold.{holdsOf, holdRestMs, holdRestS, holdBrakeMaxS, horizSpeedOf, brakePointOf, enteredOf, restOf, brakedOf, leftOf, keptOf, heldOf}
-use Rattle.falcon_core.specs.Tick.{checkedOf, poweredOf, telemetryOf, sensedOf, afterBreach, afterRunaway, afterWind, afterMilestone, holdingOf, tickOf}
+use Rattle.falcon_guidance.specs.State.{zerof, origin, noZone, nowhere, maxWaypoints, maxKeepoutZones}
+use Rattle.falcon_failsafe.specs.State.{openedOf}
+use Rattle.falcon_core.specs.State.{unopened}
+use Rattle.falcon_guidance.specs.Mission.{pointAtOf, triedOf, loadedOf}
+use Rattle.falcon_guidance.specs.Zones.{noPlace, zoneAtOf, keptOf as keptZonesOf, loadedZonesOf}
+use Rattle.falcon_failsafe.specs.Failsafe.{clearedOf, breachedOf, runawayOf, windOf}
+use Rattle.falcon_flight.specs.Milestone.{milestoneOf}
+use Rattle.falcon_guidance.specs.Hold.{holdsOf, holdRestMs, holdRestS, holdBrakeMaxS, horizSpeedOf, brakePointOf, enteredOf, restOf, brakedOf, leftOf, keptOf, heldOf}
+use Rattle.falcon_flight.specs.Tick.{checkedOf, poweredOf, telemetryOf, sensedOf, afterBreach, afterRunaway, afterWind, afterMilestone, holdingOf, tickOf}
 use Rattle.falcon_core.specs.Calls.{Request, opens, ticks, reports, commands, points, zones, commandedBy, afterOf, stepOf}
 use Rattle.falcon_core.specs.Sound.{runOf, FitPoint, FitZone, FitHold, FitFlight, FitOpening, FitTick, Lent, EachLent}
 use Rattle.falcon_core.proofs.Refused.{step-keeps}

@@ -26,21 +26,23 @@ use Rattle.relay_preflight.specs.declared.CheckId.the-variants.{EscTelemetry}
 use Rattle.relay_batt.specs.declared.battery.Battery.{Battery}
 use Rattle.relay_batt.specs.Config.{forOpeningVoltsOf}
 use Rattle.relay_batt.proofs.Sound.{sound-new, sound-update}
-use Rattle.falcon_core.specs.declared.state.Config.{Config}
-use Rattle.falcon_core.specs.declared.state.Mission.{Mission}
-use Rattle.falcon_core.specs.declared.state.Opening.{Opening}
-use Rattle.falcon_core.specs.declared.state.Point.{Point}
-use Rattle.falcon_core.specs.declared.state.Zone.{Zone}
-use Rattle.falcon_core.specs.declared.state.Tick.{Tick}
-use Rattle.falcon_core.specs.declared.state.FlightSupervisor.{FlightSupervisor}
+use Rattle.falcon_guidance.specs.declared.state.Config.{Config}
+use Rattle.falcon_guidance.specs.declared.state.Mission.{Mission}
+use Rattle.falcon_failsafe.specs.declared.state.Opening.{Opening}
+use Rattle.falcon_guidance.specs.declared.state.Point.{Point}
+use Rattle.falcon_guidance.specs.declared.state.Zone.{Zone}
+use Rattle.falcon_guidance.specs.declared.state.Tick.{Tick}
+use Rattle.falcon_failsafe.specs.declared.state.FlightSupervisor.{FlightSupervisor}
 use Rattle.falcon_core.specs.declared.state.Supervisor.{Supervisor}
-use Rattle.falcon_core.specs.State.{origin, noZone, nowhere, maxWaypoints, maxKeepoutZones, withMode, withTable, openedOf, unopened}
-use Rattle.falcon_core.specs.Mission.{waypointAdmissibleOf, triedOf, allAdmissibleOf, waypointAtOf, currentWaypointOf}
-use Rattle.falcon_core.specs.Zones.{noPlace}
-use Rattle.falcon_core.specs.Preflight.{navRowsOf, integrityRowsOf, readinessRowsOf, updatePreflightOf, escTelemetryOf}
-use Rattle.falcon_core.specs.Failsafe.{modeAfter, clearedOf, breachGives, breachedOf, tiltedOf, tiltRunawayCycles, runawayCountOf, runawayEnough, runawayEvent, runawayCounted, runawayGives, runawayOf, windGives, windOf}
-use Rattle.falcon_core.specs.Milestone.{arrivedOf, milestoneGives, legOf, milestoneOf}
-use Rattle.falcon_core.specs.Tick.{checkedOf, poweredOf, telemetryOf, sensedOf, afterBreach, afterRunaway, afterWind, afterMilestone, holdingOf, tickOf}
+use Rattle.falcon_guidance.specs.State.{origin, noZone, nowhere, maxWaypoints, maxKeepoutZones}
+use Rattle.falcon_failsafe.specs.State.{withMode, withTable, openedOf}
+use Rattle.falcon_core.specs.State.{unopened}
+use Rattle.falcon_guidance.specs.Mission.{waypointAdmissibleOf, triedOf, allAdmissibleOf, waypointAtOf, currentWaypointOf}
+use Rattle.falcon_guidance.specs.Zones.{noPlace}
+use Rattle.falcon_failsafe.specs.Preflight.{navRowsOf, integrityRowsOf, readinessRowsOf, updatePreflightOf, escTelemetryOf}
+use Rattle.falcon_failsafe.specs.Failsafe.{modeAfter, clearedOf, breachGives, breachedOf, tiltedOf, tiltRunawayCycles, runawayCountOf, runawayEnough, runawayEvent, runawayCounted, runawayGives, runawayOf, windGives, windOf}
+use Rattle.falcon_flight.specs.Milestone.{arrivedOf, milestoneGives, legOf, milestoneOf}
+use Rattle.falcon_flight.specs.Tick.{checkedOf, poweredOf, telemetryOf, sensedOf, afterBreach, afterRunaway, afterWind, afterMilestone, holdingOf, tickOf}
 use Rattle.falcon_core.specs.Calls.{Request, opens, ticks, reports, commands, points, zones, commandedBy, refusalOf, afterOf, stepOf}
 use Rattle.falcon_core.specs.Sound.{runOf, SoundChecks, SoundMission, SoundTilt, SoundFlight}
 use Rattle.falcon_core.proofs.Refused.{accepted-passed, step-keeps, run-keeps}

@@ -1,13 +1,9 @@
-pub mod Waypoints
-pub mod KeptZones
-pub mod Milestones
 pub mod Answers
 pub mod Stages
 pub mod Rules
 pub mod Rank
 pub mod Phase
 pub mod Runaway
-pub mod HoldPoint
 pub mod Places
 pub mod Refused
 pub mod Parts

@@ -6,14 +6,14 @@ use lib.Dec.{T}
 use lib.Ieee.{Float}
 use Rattle.relay_fsm.specs.declared.Event.the-variants.{Failsafe}
 use Rattle.relay_fsm.specs.Fsm.{onOf}
-use Rattle.falcon_core.specs.declared.state.Tick.{Tick}
-use Rattle.falcon_core.specs.declared.state.FlightSupervisor.{FlightSupervisor}
+use Rattle.falcon_guidance.specs.declared.state.Tick.{Tick}
+use Rattle.falcon_failsafe.specs.declared.state.FlightSupervisor.{FlightSupervisor}
 use Rattle.falcon_core.specs.declared.state.Supervisor.{Supervisor}
-use Rattle.falcon_core.specs.State.{withMode, withMission, withMotors}
-use Rattle.falcon_core.specs.Mission.{loadedOf}
-use Rattle.falcon_core.specs.Setpoint.{motorsOffOf}
-use Rattle.falcon_core.specs.Failsafe.{withoutPosition, motorLost, reportedOf}
-use Rattle.falcon_core.specs.Tick.{afterMilestone, holdingOf, answeredOf, tickOf}
+use Rattle.falcon_failsafe.specs.State.{withMode, withMission, withMotors}
+use Rattle.falcon_guidance.specs.Mission.{loadedOf}
+use Rattle.falcon_flight.specs.Setpoint.{motorsOffOf}
+use Rattle.falcon_failsafe.specs.Failsafe.{withoutPosition, motorLost, reportedOf}
+use Rattle.falcon_flight.specs.Tick.{afterMilestone, holdingOf, answeredOf, tickOf}
 use Rattle.falcon_core.specs.Calls.{Request, opens, ticks, reports, commands, points, zones, isOpening, dueAfter, commandedBy, refusalOf, afterOf, acceptedOf, stepOf}
 use Rattle.falcon_core.proofs.Answers.{step-accepted}
 use Rattle.falcon_core.proofs.Stages.{answered-flight, tick-config}

@@ -12,11 +12,11 @@ use Rattle.relay_fsm.specs.Fsm.{rowOf, onOf}
 use Rattle.relay_fsm.proofs.Finite.{_⇒_, then, atM}
 use Rattle.relay_batt.specs.declared.battery.Battery.{Battery}
 use Rattle.relay_batt.specs.Battery.{updateOf, lostOf}
-use Rattle.falcon_core.specs.declared.state.Tick.{Tick}
-use Rattle.falcon_core.specs.declared.state.FlightSupervisor.{FlightSupervisor}
-use Rattle.falcon_core.specs.Preflight.{outsideGeofenceOf}
-use Rattle.falcon_core.specs.Failsafe.{breachOf, reportedOf}
-use Rattle.falcon_core.specs.Tick.{sensedOf, afterBreach, tickOf}
+use Rattle.falcon_guidance.specs.declared.state.Tick.{Tick}
+use Rattle.falcon_failsafe.specs.declared.state.FlightSupervisor.{FlightSupervisor}
+use Rattle.falcon_failsafe.specs.Preflight.{outsideGeofenceOf}
+use Rattle.falcon_failsafe.specs.Failsafe.{breachOf, reportedOf}
+use Rattle.falcon_flight.specs.Tick.{sensedOf, afterBreach, tickOf}
 use Rattle.falcon_core.specs.Land.{landedOf}
 use Rattle.falcon_core.proofs.Stages.{sensed-battery}
 use Rattle.falcon_core.proofs.Rules.{Rule2, breachRule, reportRule, breach-by, report-by, laterKeep, stagesKeep, later-keeps, tick-keeps}

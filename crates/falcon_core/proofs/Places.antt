@@ -10,17 +10,17 @@ use lib.ListN.{length, getD, set, replicate, length-append, length-set, length-r
 use lib.Seq.{getD-append-add, getD-at, getD-set-same, getD-set-other, ext-getD}
 use lib.Ieee.{Float}
 use lib.Ieee.Fits.{and-l, and-r}
-use Rattle.falcon_core.specs.declared.state.Config.{Config}
-use Rattle.falcon_core.specs.declared.state.Point.{Point}
-use Rattle.falcon_core.specs.declared.state.FlightSupervisor.{FlightSupervisor}
+use Rattle.falcon_guidance.specs.declared.state.Config.{Config}
+use Rattle.falcon_guidance.specs.declared.state.Point.{Point}
+use Rattle.falcon_failsafe.specs.declared.state.FlightSupervisor.{FlightSupervisor}
 use Rattle.falcon_core.specs.declared.state.Supervisor.{Supervisor}
-use Rattle.falcon_core.specs.State.{maxWaypoints, maxKeepoutZones, origin, noZone, nowhere}
-use Rattle.falcon_core.specs.declared.state.Zone.{Zone}
-use Rattle.falcon_core.specs.Zones.{noPlace, zoneAtOf, keptOf, storedZonesOf, loadedZonesOf}
-use Rattle.falcon_core.specs.Mission.{waypointAdmissibleOf, pointAtOf, triedOf, allAdmissibleOf, storedOf, loadedOf}
+use Rattle.falcon_guidance.specs.State.{maxWaypoints, maxKeepoutZones, origin, noZone, nowhere}
+use Rattle.falcon_guidance.specs.declared.state.Zone.{Zone}
+use Rattle.falcon_guidance.specs.Zones.{noPlace, zoneAtOf, keptOf, storedZonesOf, loadedZonesOf}
+use Rattle.falcon_guidance.specs.Mission.{waypointAdmissibleOf, pointAtOf, triedOf, allAdmissibleOf, storedOf, loadedOf}
 use Rattle.falcon_core.specs.Calls.{points, refusalOf, stepOf}
 use Rattle.falcon_core.specs.Sound.{firstOf, filledOf, Tidy, SoundMission, SoundZones}
-use Rattle.falcon_core.proofs.Waypoints.{tried-places}
+use Rattle.falcon_guidance.proofs.Waypoints.{tried-places}
 use Rattle.falcon_core.proofs.Parts.{points-flight}
 
 module _ {A : Type 0} where

@@ -15,12 +15,12 @@ use Rattle.relay_fsm.specs.Mode.{isMode, isAirborneOf, rankOf}
 use Rattle.relay_fsm.specs.Fsm.{rowOf, onOf}
 use Rattle.relay_fsm.proofs.Finite.{_⇒_, then, either, isMode→eq, eq→isMode}
 use Rattle.relay_batt.specs.Battery.{updateOf}
-use Rattle.falcon_core.specs.declared.state.Config.{Config}
-use Rattle.falcon_core.specs.declared.state.Tick.{Tick}
-use Rattle.falcon_core.specs.declared.state.FlightSupervisor.{FlightSupervisor}
-use Rattle.falcon_core.specs.Failsafe.{inFlight, modeAfter, tiltedOf, breachGives, runawayGives, windGives, reportedOf}
-use Rattle.falcon_core.specs.Milestone.{nearHomeOf, nearGroundOf, milestoneGives}
-use Rattle.falcon_core.specs.Tick.{sensedOf, afterBreach, afterRunaway, afterWind, afterMilestone, tickOf, givenOf}
+use Rattle.falcon_guidance.specs.declared.state.Config.{Config}
+use Rattle.falcon_guidance.specs.declared.state.Tick.{Tick}
+use Rattle.falcon_failsafe.specs.declared.state.FlightSupervisor.{FlightSupervisor}
+use Rattle.falcon_failsafe.specs.Failsafe.{inFlight, modeAfter, tiltedOf, breachGives, runawayGives, windGives, reportedOf}
+use Rattle.falcon_flight.specs.Milestone.{nearHomeOf, nearGroundOf, milestoneGives}
+use Rattle.falcon_flight.specs.Tick.{sensedOf, afterBreach, afterRunaway, afterWind, afterMilestone, tickOf, givenOf}
 use Rattle.falcon_core.specs.Land.{ledToLand, throughLandOf}
 use Rattle.falcon_core.proofs.Stages.{sensed-mode, breach-mode, runaway-mode, wind-mode, wind-config, tick-mode}
 use Rattle.falcon_core.proofs.Rules.{breach-by, runaway-by, wind-by, milestone-by, report-by, tick-keeps}

@@ -7,12 +7,12 @@ use lib.Ieee.Fits.{and-l, and-r}
 use Rattle.relay_fsm.specs.declared.Mode.{Mode}
 use Rattle.relay_fsm.proofs.Finite.{_⇒_, then, all1, all2, all5, at1, at2, at5}
 use Rattle.relay_batt.specs.Battery.{updateOf}
-use Rattle.falcon_core.specs.declared.state.Tick.{Tick}
-use Rattle.falcon_core.specs.declared.state.FlightSupervisor.{FlightSupervisor}
-use Rattle.falcon_core.specs.Failsafe.{modeAfter, breachOf, breachEvent, breachGives, tiltedOf, runawayEnough, runawayEvent, runawayCounted, runawayGives}
-use Rattle.falcon_core.specs.Failsafe.{gustyOf, windEnough, windEvent, windCounted, windGives, reportedOf}
-use Rattle.falcon_core.specs.Milestone.{highOf, nearHomeOf, nearGroundOf, arrivedOf, moreOf, milestoneEvent, milestoneGives}
-use Rattle.falcon_core.specs.Tick.{sensedOf, afterBreach, afterRunaway, afterWind, afterMilestone, tickOf}
+use Rattle.falcon_guidance.specs.declared.state.Tick.{Tick}
+use Rattle.falcon_failsafe.specs.declared.state.FlightSupervisor.{FlightSupervisor}
+use Rattle.falcon_failsafe.specs.Failsafe.{modeAfter, breachOf, breachEvent, breachGives, tiltedOf, runawayEnough, runawayEvent, runawayCounted, runawayGives}
+use Rattle.falcon_failsafe.specs.Failsafe.{gustyOf, windEnough, windEvent, windCounted, windGives, reportedOf}
+use Rattle.falcon_flight.specs.Milestone.{highOf, nearHomeOf, nearGroundOf, arrivedOf, moreOf, milestoneEvent, milestoneGives}
+use Rattle.falcon_flight.specs.Tick.{sensedOf, afterBreach, afterRunaway, afterWind, afterMilestone, tickOf}
 use Rattle.falcon_core.proofs.Stages.{sensed-mode, sensed-battery, breach-mode, runaway-mode, wind-mode, milestone-mode, tick-mode, modeReported, report-mode}
 
 -- the rules

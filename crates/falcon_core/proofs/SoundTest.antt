@@ -22,16 +22,17 @@ use Rattle.relay_batt.specs.Bounds.{all}
 use Rattle.relay_batt.specs.Fits.{Fit}
 use Rattle.relay_batt.specs.Sound.{soundOf as batterySoundOf}
 use Rattle.relay_batt.proofs.SoundTest.{sound-test as battery-test, test-sound as battery-back}
-use Rattle.falcon_core.specs.declared.state.Point.{Point}
-use Rattle.falcon_core.specs.declared.state.Zone.{Zone}
-use Rattle.falcon_core.specs.declared.state.Config.{Config}
-use Rattle.falcon_core.specs.declared.state.Mission.{Mission}
-use Rattle.falcon_core.specs.declared.state.Zones.{Zones}
+use Rattle.falcon_guidance.specs.declared.state.Point.{Point}
+use Rattle.falcon_guidance.specs.declared.state.Zone.{Zone}
+use Rattle.falcon_guidance.specs.declared.state.Config.{Config}
+use Rattle.falcon_guidance.specs.declared.state.Mission.{Mission}
+use Rattle.falcon_guidance.specs.declared.state.Zones.{Zones}
 use Rattle.falcon_core.specs.declared.state.Supervisor.{Supervisor}
-use Rattle.falcon_core.specs.State.{zerof, origin, noZone, nowhere, maxWaypoints, maxKeepoutZones, unopened}
-use Rattle.falcon_core.specs.Mission.{waypointAdmissibleOf}
-use Rattle.falcon_core.specs.Zones.{noPlace}
-use Rattle.falcon_core.specs.Failsafe.{tiltRunawayCycles}
+use Rattle.falcon_guidance.specs.State.{zerof, origin, noZone, nowhere, maxWaypoints, maxKeepoutZones}
+use Rattle.falcon_core.specs.State.{unopened}
+use Rattle.falcon_guidance.specs.Mission.{waypointAdmissibleOf}
+use Rattle.falcon_guidance.specs.Zones.{noPlace}
+use Rattle.falcon_failsafe.specs.Failsafe.{tiltRunawayCycles}
 use Rattle.falcon_core.specs.Calls.{Request, stepOf}
 use Rattle.falcon_core.specs.Sound.{runOf, Tidy, eachBelow, checksSoundOf, countsSoundOf, pointsSoundOf, legSoundOf, tiltSoundOf, zeroBits, zeroPoint, zeroZone, unusedSound, unusedSoundOf, soundTests, soundOf, SoundChecks, SoundMission, SoundZones, SoundTilt, SoundFlight, FitPoint, FitZone, FitFlight}
 use Rattle.falcon_core.proofs.Invariant.{step-sound, unopened-sound, run-sound, reachable-sound}

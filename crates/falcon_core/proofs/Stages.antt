@@ -8,16 +8,16 @@ use Rattle.relay_fsm.specs.declared.Event.the-variants.{Failsafe}
 use Rattle.relay_fsm.specs.Fsm.{onOf}
 use Rattle.relay_batt.specs.Battery.{updateOf}
 use Rattle.relay_preflight.specs.Verdict.{firstBlockerOf}
-use Rattle.falcon_core.specs.declared.state.Tick.{Tick}
-use Rattle.falcon_core.specs.declared.state.FlightSupervisor.{FlightSupervisor}
-use Rattle.falcon_core.specs.State.{withMode, withMotors}
-use Rattle.falcon_core.specs.Preflight.{updatePreflightOf, escTelemetryOf}
-use Rattle.falcon_core.specs.Failsafe.{withoutPosition, modeAfter, clearedOf, breachGives, breachedOf, runawayCounted, runawayGives, runawayOf}
-use Rattle.falcon_core.specs.Failsafe.{windCounted, windGives, windOf, motorLost, reportedOf}
-use Rattle.falcon_core.specs.Milestone.{milestoneGives, legOf, milestoneOf}
-use Rattle.falcon_core.specs.Hold.{heldOf}
-use Rattle.falcon_core.specs.Setpoint.{motorsOffOf}
-use Rattle.falcon_core.specs.Tick.{checkedOf, poweredOf, telemetryOf, sensedOf, afterBreach, afterRunaway, afterWind, afterMilestone, holdingOf, answeredOf, tickOf}
+use Rattle.falcon_guidance.specs.declared.state.Tick.{Tick}
+use Rattle.falcon_failsafe.specs.declared.state.FlightSupervisor.{FlightSupervisor}
+use Rattle.falcon_failsafe.specs.State.{withMode, withMotors}
+use Rattle.falcon_failsafe.specs.Preflight.{updatePreflightOf, escTelemetryOf}
+use Rattle.falcon_failsafe.specs.Failsafe.{withoutPosition, modeAfter, clearedOf, breachGives, breachedOf, runawayCounted, runawayGives, runawayOf}
+use Rattle.falcon_failsafe.specs.Failsafe.{windCounted, windGives, windOf, motorLost, reportedOf}
+use Rattle.falcon_flight.specs.Milestone.{milestoneGives, legOf, milestoneOf}
+use Rattle.falcon_guidance.specs.Hold.{heldOf}
+use Rattle.falcon_flight.specs.Setpoint.{motorsOffOf}
+use Rattle.falcon_flight.specs.Tick.{checkedOf, poweredOf, telemetryOf, sensedOf, afterBreach, afterRunaway, afterWind, afterMilestone, holdingOf, answeredOf, tickOf}
 use Rattle.falcon_core.specs.Calls.{allowedOf, commandedBy}
 
 -- the answer's paragraph changes only whether the motors were off

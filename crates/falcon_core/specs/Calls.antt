@@ -12,21 +12,21 @@ use Rattle.relay_preflight.specs.declared.TableVerdict.{TableVerdict}
 use Rattle.relay_preflight.specs.declared.TableVerdict.the-variants.{Allowed, Blocked}
 use Rattle.relay_preflight.specs.Table.{outstandingOf, maskLimit}
 use Rattle.relay_preflight.specs.Verdict.{firstBlockerOf, blockerNumber}
-use Rattle.falcon_core.specs.declared.state.Opening.{Opening}
-use Rattle.falcon_core.specs.declared.state.Tick.{Tick}
-use Rattle.falcon_core.specs.declared.state.FlightSupervisor.{FlightSupervisor}
+use Rattle.falcon_failsafe.specs.declared.state.Opening.{Opening}
+use Rattle.falcon_guidance.specs.declared.state.Tick.{Tick}
+use Rattle.falcon_failsafe.specs.declared.state.FlightSupervisor.{FlightSupervisor}
 use Rattle.falcon_core.specs.declared.state.Supervisor.{Supervisor}
-use Rattle.falcon_core.specs.declared.tick.TickAnswer.{TickAnswer}
-use Rattle.falcon_core.specs.declared.tick.TickAnswer.the-variants.{MotorsOff, Setpoint}
+use Rattle.falcon_flight.specs.declared.tick.TickAnswer.{TickAnswer}
+use Rattle.falcon_flight.specs.declared.tick.TickAnswer.the-variants.{MotorsOff, Setpoint}
 use Rattle.falcon_core.specs.declared.calls.Output.{Output}
 use Rattle.falcon_core.specs.declared.calls.Output.the-variants.{Nothing, Ticks}
 use Rattle.falcon_core.specs.declared.calls.Answer.{Answer}
 use Rattle.falcon_core.specs.declared.calls.Answered.{Answered}
-use Rattle.falcon_core.specs.State.{openedOf, withMode, withMission, withZones}
-use Rattle.falcon_core.specs.Mission.{triedOf, allAdmissibleOf, loadedOf}
-use Rattle.falcon_core.specs.Zones.{loadedZonesOf}
-use Rattle.falcon_core.specs.Failsafe.{reportedOf}
-use Rattle.falcon_core.specs.Tick.{tickOf}
+use Rattle.falcon_failsafe.specs.State.{openedOf, withMode, withMission, withZones}
+use Rattle.falcon_guidance.specs.Mission.{triedOf, allAdmissibleOf, loadedOf}
+use Rattle.falcon_guidance.specs.Zones.{loadedZonesOf}
+use Rattle.falcon_failsafe.specs.Failsafe.{reportedOf}
+use Rattle.falcon_flight.specs.Tick.{tickOf}
 
 -- what a call asks: an opening, a tick, a report (failed), a command (event, level, low throttle) points (three numbers each)
 -- or zones (four numbers each)

@@ -7,10 +7,10 @@ use Rattle.relay_fsm.specs.declared.Mode.the-variants.{Disarmed, Land, Terminat
 use Rattle.relay_fsm.specs.declared.Event.{Event}
 use Rattle.relay_fsm.specs.Mode.{isMode}
 use Rattle.relay_fsm.specs.Fsm.{onOf}
-use Rattle.falcon_core.specs.declared.state.Tick.{Tick}
-use Rattle.falcon_core.specs.declared.state.FlightSupervisor.{FlightSupervisor}
-use Rattle.falcon_core.specs.Failsafe.{inFlight}
-use Rattle.falcon_core.specs.Tick.{Given, givenOf}
+use Rattle.falcon_guidance.specs.declared.state.Tick.{Tick}
+use Rattle.falcon_failsafe.specs.declared.state.FlightSupervisor.{FlightSupervisor}
+use Rattle.falcon_failsafe.specs.Failsafe.{inFlight}
+use Rattle.falcon_flight.specs.Tick.{Given, givenOf}
 
 -- "the mode is Land, Disarmed or Terminated"
 abbrev pub landedOf : Mode → Bool

@@ -1,13 +1,4 @@
 pub mod State
-pub mod Geometry
-pub mod Mission
-pub mod Zones
-pub mod Preflight
-pub mod Failsafe
-pub mod Milestone
-pub mod Hold
-pub mod Setpoint
-pub mod Tick
 pub mod Calls
 pub mod Land
 pub mod Sound

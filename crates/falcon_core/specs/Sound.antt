@@ -14,22 +14,22 @@ use Rattle.relay_preflight.specs.Table.{maskLimit}
 use Rattle.relay_batt.specs.Bounds.{all}
 use Rattle.relay_batt.specs.Sound.{Sound as SoundBattery, soundOf as batterySoundOf}
 use Rattle.relay_batt.specs.Fits.{Fit, FitBattery, FitReading}
-use Rattle.falcon_core.specs.declared.state.Point.{Point}
-use Rattle.falcon_core.specs.declared.state.Zone.{Zone}
-use Rattle.falcon_core.specs.declared.state.Config.{Config}
-use Rattle.falcon_core.specs.declared.state.Mission.{Mission}
-use Rattle.falcon_core.specs.declared.state.Zones.{Zones}
-use Rattle.falcon_core.specs.declared.state.Hold.{Hold}
-use Rattle.falcon_core.specs.declared.state.Opening.{Opening}
-use Rattle.falcon_core.specs.declared.state.Tick.{Tick}
-use Rattle.falcon_core.specs.declared.state.FlightSupervisor.{FlightSupervisor}
+use Rattle.falcon_guidance.specs.declared.state.Point.{Point}
+use Rattle.falcon_guidance.specs.declared.state.Zone.{Zone}
+use Rattle.falcon_guidance.specs.declared.state.Config.{Config}
+use Rattle.falcon_guidance.specs.declared.state.Mission.{Mission}
+use Rattle.falcon_guidance.specs.declared.state.Zones.{Zones}
+use Rattle.falcon_guidance.specs.declared.state.Hold.{Hold}
+use Rattle.falcon_failsafe.specs.declared.state.Opening.{Opening}
+use Rattle.falcon_guidance.specs.declared.state.Tick.{Tick}
+use Rattle.falcon_failsafe.specs.declared.state.FlightSupervisor.{FlightSupervisor}
 use Rattle.falcon_core.specs.declared.state.Supervisor.{Supervisor}
 use Rattle.falcon_core.specs.declared.calls.Output.{Output}
 use Rattle.falcon_core.specs.declared.calls.Output.the-variants.{Nothing, Ticks}
-use Rattle.falcon_core.specs.State.{origin, noZone, nowhere, maxWaypoints, maxKeepoutZones}
-use Rattle.falcon_core.specs.Mission.{waypointAdmissibleOf}
-use Rattle.falcon_core.specs.Zones.{noPlace}
-use Rattle.falcon_core.specs.Failsafe.{tiltRunawayCycles}
+use Rattle.falcon_guidance.specs.State.{origin, noZone, nowhere, maxWaypoints, maxKeepoutZones}
+use Rattle.falcon_guidance.specs.Mission.{waypointAdmissibleOf}
+use Rattle.falcon_guidance.specs.Zones.{noPlace}
+use Rattle.falcon_failsafe.specs.Failsafe.{tiltRunawayCycles}
 use Rattle.falcon_core.specs.Calls.{Request, opens, ticks, reports, commands, points, zones, dueAfter, stepOf}
 
 -- the state after a list of calls, first call first

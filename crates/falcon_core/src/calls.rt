@@ -2,17 +2,16 @@
 ghost use mathlib.Core.Path.{_≡_};
 ghost use Rattle.falcon_core.specs.Calls.{opens, ticks, reports, commands, points, zones, allowedOf, commandedBy, dueAfter, answerOf, refusedOf, acceptedOf};
 ghost use Rattle.falcon_core.specs.Calls.{stepOf, flag, numbersOf};
-use crate::failsafe::reported;
-use crate::mission::all_admissible;
-use crate::mission::loaded;
-use crate::mission::tried;
-use crate::state::FlightSupervisor;
-use crate::state::Opening;
 use crate::state::Supervisor;
-use crate::state::Tick;
-use crate::tick::TickAnswer;
-use crate::tick::tick;
-use crate::zones::loaded_zones;
+use falcon_failsafe::failsafe::reported;
+use falcon_failsafe::state::FlightSupervisor;
+use falcon_failsafe::state::Opening;
+use falcon_flight::tick::TickAnswer;
+use falcon_flight::tick::tick;
+use falcon_guidance::mission::loaded;
+use falcon_guidance::mission::tried_admissible;
+use falcon_guidance::state::Tick;
+use falcon_guidance::zones::loaded_zones;
 use relay_fsm::Event;
 use relay_fsm::Gates;
 use relay_fsm::Mode;
@@ -273,8 +272,7 @@ impl Supervisor {
             return refused(self, Answer::REPORT_DUE);
         }
         let config = self.flight.config;
-        let n = tried(lent);
-        if !all_admissible(config, lent, n) {
+        if !tried_admissible(config, lent) {
             return refused(self, Answer::INADMISSIBLE);
         }
         let mission = loaded(lent);

@@ -10,8 +10,8 @@ use Rattle.relay_fsafe.specs.Fsafe.{graverOf, bumpOf, policyActionOf}
 use Rattle.relay_preflight.specs.Check.{allChecks}
 use Rattle.relay_preflight.specs.Table.{bitOf, failsOf}
 use Rattle.relay_preflight.specs.Verdict.{firstIn, firstBlockerOf}
-use Rattle.falcon_core.specs.Geometry.{lengthOf, distanceOf}
-use Rattle.falcon_core.specs.Mission.{waypointAdmissibleOf}
+use Rattle.falcon_guidance.specs.Geometry.{lengthOf, distanceOf}
+use Rattle.falcon_guidance.specs.Mission.{waypointAdmissibleOf}
 use Rattle.rows.specs.Examples.{rows, agree}
 
 twelve : agree rows ≡ true

@@ -18,9 +18,9 @@ use Rattle.relay_preflight.specs.declared.CheckId.the-variants.{MotorsHealthy, 
 use Rattle.relay_preflight.specs.Check.{checkNumber}
 use Rattle.relay_preflight.specs.Table.{newOf}
 use Rattle.relay_preflight.specs.Verdict.{firstBlockerOf, blockerNumber}
-use Rattle.falcon_core.specs.declared.state.Config.{Config}
-use Rattle.falcon_core.specs.State.{pointOf}
-use Rattle.falcon_core.specs.Mission.{waypointAdmissibleOf}
+use Rattle.falcon_guidance.specs.declared.state.Config.{Config}
+use Rattle.falcon_guidance.specs.State.{pointOf}
+use Rattle.falcon_guidance.specs.Mission.{waypointAdmissibleOf}
 
 -- a row: what is computed, and what is expected
 pub record Row : Type 0 where

@@ -3,14 +3,14 @@
 ghost use Prim.Native.Nat.{_≤_};
 ghost use mathlib.Core.Path.{_≡_};
 ghost use lib.ListN.{length};
+use columns::field::FIELD;
+use columns::field::FieldRead;
+use columns::field::read_field_of;
 use falcon_core::state::Supervisor;
 use libc::STDIN_FILENO;
 use libc::STDOUT_FILENO;
 use sheet::entry::answer;
-use sheet::field::FIELD;
-use sheet::field::FieldRead;
-use sheet::field::read_field_of;
-use sheet::many::answer_sheet;
+use stream::many::answer_sheet;
 
 // The columns of a sheet's name.
 const NAME: usize = 52;

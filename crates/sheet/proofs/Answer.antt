@@ -4,9 +4,9 @@ use lib.ListN.{length, length-append}
 use Rattle.falcon_core.specs.declared.calls.Answer.{Answer}
 use Rattle.falcon_core.specs.declared.calls.Output.{Output}
 use Rattle.falcon_core.specs.declared.calls.Output.the-variants.{Nothing, Ticks}
-use Rattle.falcon_core.specs.declared.tick.TickAnswer.the-variants.{MotorsOff, Setpoint}
+use Rattle.falcon_flight.specs.declared.tick.TickAnswer.the-variants.{MotorsOff, Setpoint}
 use Rattle.falcon_core.specs.Calls.{outputNumbers, numbersOf}
-use Rattle.sheet.specs.Line.{answerFields}
+use Rattle.columns.specs.Line.{answerFields}
 
 -- an output has six
 pub output-count : (o : Output) → length (outputNumbers o) ≡ 6

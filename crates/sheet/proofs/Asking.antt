@@ -6,12 +6,12 @@ use borrow.Author.Tests.{lt-ltb, le-ltb}
 use lib.ListN.{length, take, drop}
 use Rattle.falcon_core.specs.declared.state.Supervisor.{Supervisor}
 use Rattle.falcon_core.specs.Calls.{answerOf, refusedOf, numbersOf}
-use Rattle.sheet.specs.declared.line.LineRead.{LineRead}
-use Rattle.sheet.specs.declared.line.LineRead.the-variants.{Numbers, Broken}
-use Rattle.sheet.specs.Line.{answerWidth, lineFields, readLine, readingOf, Counted, lineOf}
-use Rattle.sheet.specs.Kinds.{refuses, requestOf, answeredBy}
+use Rattle.columns.specs.declared.line.LineRead.{LineRead}
+use Rattle.columns.specs.declared.line.LineRead.the-variants.{Numbers, Broken}
+use Rattle.columns.specs.Line.{answerWidth, lineFields, readLine, readingOf, Counted, lineOf}
+use Rattle.requests.specs.Kinds.{refuses, requestOf, answeredBy}
 use Rattle.sheet.specs.Entry.{shortBuffer, notALine, askedBy, askedLine, askedWith, lineStep, replyOf, bufferAfter}
-use Rattle.sheet.proofs.LineAgain.{line-only}
+use Rattle.columns.proofs.LineAgain.{line-only}
 
 -- the numbers that a line was read to
 module _ (line : List ℕ) (r : LineRead) (a : List ℕ) (n : ℕ) (e : readingOf r a ≡ readLine line) (k : r ≡ Numbers n) where

@@ -8,7 +8,7 @@ use Rattle.falcon_core.specs.declared.state.Supervisor.{Supervisor}
 use Rattle.falcon_core.specs.declared.calls.Answered.{Answered}
 use Rattle.falcon_core.specs.Calls.{Request, refusalOf, afterOf, outputOf, answerOf, refusedOf, acceptedOf, stepOf}
 use Rattle.falcon_core.proofs.Answers.{step-refused, step-accepted}
-use Rattle.sheet.specs.Kinds.{Asked, refuses, asks, answeredBy}
+use Rattle.requests.specs.Kinds.{Asked, refuses, asks, answeredBy}
 use Rattle.sheet.specs.Lists.{Call, askedOf, callStep, accepted, requested, taken}
 
 -- the answer to a call, and what it took

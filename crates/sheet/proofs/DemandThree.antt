@@ -17,12 +17,12 @@ use denote.Floats.{is-true}
 use Rattle.relay_batt.specs.declared.battery.Battery.{Battery}
 use Rattle.relay_batt.specs.Battery.{updateOf}
 use Rattle.relay_batt.proofs.Stays.{critical-stays, critical-shown}
-use Rattle.falcon_core.specs.declared.state.Tick.{Tick}
+use Rattle.falcon_guidance.specs.declared.state.Tick.{Tick}
 use Rattle.falcon_core.specs.declared.state.Supervisor.{Supervisor}
 use Rattle.falcon_core.specs.declared.calls.Answered.{Answered}
-use Rattle.falcon_core.specs.Failsafe.{tiltedOf, runawayEnough}
-use Rattle.falcon_core.specs.Milestone.{nearGroundOf}
-use Rattle.falcon_core.specs.Tick.{tickOf}
+use Rattle.falcon_failsafe.specs.Failsafe.{tiltedOf, runawayEnough}
+use Rattle.falcon_flight.specs.Milestone.{nearGroundOf}
+use Rattle.falcon_flight.specs.Tick.{tickOf}
 use Rattle.falcon_core.specs.Land.{landedOf, throughLandOf}
 use Rattle.falcon_core.specs.Calls.{Request, opens, ticks, reports, commands, points, zones, afterOf, outputOf, refusedOf, acceptedOf}
 use Rattle.falcon_core.proofs.Rank.{tick-rank, report-rank}

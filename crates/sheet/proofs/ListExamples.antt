@@ -9,9 +9,9 @@ use Rattle.relay_fsm.specs.declared.Event.the-variants.{Arm, RequestTakeoff}
 use Rattle.relay_fsm.specs.Mode.{modeNumber}
 use Rattle.relay_batt.specs.declared.battery.Reading.{Reading}
 use Rattle.relay_batt.specs.declared.battery.Reading.the-variants.{Nothing, Volts}
-use Rattle.falcon_core.specs.declared.state.Tick.{Tick}
-use Rattle.falcon_core.specs.declared.state.Opening.{Opening}
-use Rattle.falcon_core.specs.State.{pointOf, origin, zerof}
+use Rattle.falcon_guidance.specs.declared.state.Tick.{Tick}
+use Rattle.falcon_failsafe.specs.declared.state.Opening.{Opening}
+use Rattle.falcon_guidance.specs.State.{pointOf, origin, zerof}
 use Rattle.falcon_core.specs.Calls.{opens, ticks, reports, commands, points}
 use lib.Ieee.{add, sub, mul, div, neg, lt, eq, le, ne, ofInt, round, units, isNan, size, toBits}
 use Rattle.relay_math.specs.Root.{rootBy, wholeRoot, radicand, dropped, rounded, ranged, rootOf}
@@ -27,20 +27,21 @@ use Rattle.relay_batt.specs.Curve.{sanitizeOf, knots, walk, tableOf, ocvSocCell
 use Rattle.relay_batt.specs.Estimator.{noneOf, shownOf, newOf, resetOf, consumedOf, bigStepOf, blendOf, rEstOf, restOf, socCoulombOf, socOf, withAmpsOf, voltsOnlyOf, updateAmpsOf, updateVoltsOf}
 use Rattle.relay_batt.specs.Latch.{tripOf}
 use Rattle.falcon_core.specs.Calls.{refusalOf, commandedBy, afterOf, outputOf, answerOf, refusedOf, acceptedOf, stepOf, numbersOf}
-use Rattle.falcon_core.specs.Failsafe.{clearedOf, breachOf, breachGives, breachedOf, tiltedOf, runawayEnough, runawayCounted, runawayGives, runawayOf, gustyOf, windEnough, windCounted, windGives, windOf, reportedOf}
-use Rattle.falcon_core.specs.Geometry.{lengthOf, distanceOf}
-use Rattle.falcon_core.specs.Hold.{horizSpeedOf, brakePointOf, enteredOf, restOf as holdRestOf, brakedOf, leftOf, keptOf, heldOf}
-use Rattle.falcon_core.specs.Milestone.{heightOf, highOf, nearHomeOf, nearGroundOf, distance3Of, arrivedOf, milestoneGives, legOf, advancedOf, milestoneOf}
-use Rattle.falcon_core.specs.Mission.{waypointAdmissibleOf, pointAtOf, triedOf, allAdmissibleOf, storedOf, loadedOf, waypointAtOf, currentWaypointOf}
-use Rattle.falcon_core.specs.Preflight.{outsideGeofenceOf, geofenceSaneOf, navRowsOf, integrityRowsOf, readinessRowsOf, updatePreflightOf, escTelemetryOf}
-use Rattle.falcon_core.specs.Setpoint.{landingOf, setpointOf, commandedOf}
-use Rattle.falcon_core.specs.State.{openedOf as stateOpenedOf, unopened}
-use Rattle.falcon_core.specs.Tick.{checkedOf, poweredOf, telemetryOf, sensedOf, afterBreach, afterRunaway, afterWind, afterMilestone, holdingOf, answeredOf, tickOf, givenOf}
-use Rattle.falcon_core.specs.Zones.{goalOf, bearingOf, alongOf, perpOf, obstructsOf, threatensOf, tangentOf, urgencyOf, ringOf, deflectedOf, aroundOf, aroundAllOf, avoidOf, zoneAtOf, keptOf as zonesKeptOf, storedZonesOf, loadedZonesOf}
+use Rattle.falcon_failsafe.specs.Failsafe.{clearedOf, breachOf, breachGives, breachedOf, tiltedOf, runawayEnough, runawayCounted, runawayGives, runawayOf, gustyOf, windEnough, windCounted, windGives, windOf, reportedOf}
+use Rattle.falcon_guidance.specs.Geometry.{lengthOf, distanceOf}
+use Rattle.falcon_guidance.specs.Hold.{horizSpeedOf, brakePointOf, enteredOf, restOf as holdRestOf, brakedOf, leftOf, keptOf, heldOf}
+use Rattle.falcon_flight.specs.Milestone.{heightOf, highOf, nearHomeOf, nearGroundOf, distance3Of, arrivedOf, milestoneGives, legOf, advancedOf, milestoneOf}
+use Rattle.falcon_guidance.specs.Mission.{waypointAdmissibleOf, pointAtOf, triedOf, allAdmissibleOf, storedOf, loadedOf, waypointAtOf, currentWaypointOf}
+use Rattle.falcon_failsafe.specs.Preflight.{outsideGeofenceOf, geofenceSaneOf, navRowsOf, integrityRowsOf, readinessRowsOf, updatePreflightOf, escTelemetryOf}
+use Rattle.falcon_flight.specs.Setpoint.{landingOf, setpointOf, commandedOf}
+use Rattle.falcon_failsafe.specs.State.{openedOf as stateOpenedOf}
+use Rattle.falcon_core.specs.State.{unopened}
+use Rattle.falcon_flight.specs.Tick.{checkedOf, poweredOf, telemetryOf, sensedOf, afterBreach, afterRunaway, afterWind, afterMilestone, holdingOf, answeredOf, tickOf, givenOf}
+use Rattle.falcon_guidance.specs.Zones.{goalOf, bearingOf, alongOf, perpOf, obstructsOf, threatensOf, tangentOf, urgencyOf, ringOf, deflectedOf, aroundOf, aroundAllOf, avoidOf, zoneAtOf, keptOf as zonesKeptOf, storedZonesOf, loadedZonesOf}
 use Rattle.sheet.specs.Entry.{askedLine, askedWith, lineStep, replyOf, bufferAfter}
-use Rattle.sheet.specs.Field.{inRange, digits, start as fieldStart, spaced, readField, column, columns, fieldOf, put}
-use Rattle.sheet.specs.Kinds.{openingFrom, openingLine, readingFrom, batteryOk, tickFrom, tickOk, tickLine, reportLine, commandLine, pointsLine, zonesLine, requestOf}
-use Rattle.sheet.specs.Line.{onto, before, fields, lengthOk, readWithin, lineOf, readingOf}
+use Rattle.columns.specs.Field.{inRange, digits, start as fieldStart, spaced, readField, column, columns, fieldOf, put}
+use Rattle.requests.specs.Kinds.{openingFrom, openingLine, readingFrom, batteryOk, tickFrom, tickOk, tickLine, reportLine, commandLine, pointsLine, zonesLine, requestOf}
+use Rattle.columns.specs.Line.{onto, before, fields, lengthOk, readWithin, lineOf, readingOf}
 use Rattle.sheet.specs.Lists.{callStep, taken, nextPlace, placeFrom, start, calmFrom, ticksFrom}
 use Rattle.sheet.specs.Lists.{Call, byValues, byLine, Place, latchOf}
 

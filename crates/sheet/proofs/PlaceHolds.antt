@@ -22,15 +22,17 @@ use Rattle.relay_batt.specs.Battery.{updateOf}
 use Rattle.relay_batt.specs.Battery.{openedOf as openedBatteryOf}
 use Rattle.relay_batt.specs.Config.{forOpeningVoltsOf}
 use Rattle.relay_batt.proofs.Stays.{critical-shown, opened-state, opened-flags, none-flags}
-use Rattle.falcon_core.specs.declared.state.Tick.{Tick}
-use Rattle.falcon_core.specs.declared.state.Counts.{Counts}
+use Rattle.falcon_guidance.specs.declared.state.Tick.{Tick}
+use Rattle.falcon_failsafe.specs.declared.state.Counts.{Counts}
 use Rattle.falcon_core.specs.declared.state.Supervisor.{Supervisor}
-use Rattle.falcon_core.specs.declared.state.FlightSupervisor.{FlightSupervisor}
+use Rattle.falcon_failsafe.specs.declared.state.FlightSupervisor.{FlightSupervisor}
 use Rattle.falcon_core.specs.declared.calls.Answered.{Answered}
 use Rattle.falcon_core.specs.declared.calls.Output.{Output}
-use Rattle.falcon_core.specs.State.{zerof, openedOf, unopened}
-use Rattle.falcon_core.specs.Failsafe.{tiltedOf, runawayCountOf, runawayEnough, reportedOf}
-use Rattle.falcon_core.specs.Tick.{tickOf}
+use Rattle.falcon_guidance.specs.State.{zerof}
+use Rattle.falcon_failsafe.specs.State.{openedOf}
+use Rattle.falcon_core.specs.State.{unopened}
+use Rattle.falcon_failsafe.specs.Failsafe.{tiltedOf, runawayCountOf, runawayEnough, reportedOf}
+use Rattle.falcon_flight.specs.Tick.{tickOf}
 use Rattle.falcon_core.specs.Calls.{Request, opens, ticks, reports, commands, points, zones, dueAfter, afterOf, outputOf, answerOf, refusedOf, acceptedOf, commandedBy}
 use Rattle.falcon_core.proofs.Stages.{tick-battery, report-battery, report-counts, command-battery, command-counts}
 use Rattle.falcon_core.proofs.Runaway.{tick-count, tick-ends, report-ends, command-terminated}

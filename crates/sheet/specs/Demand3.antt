@@ -10,8 +10,8 @@ use lib.Ieee.{Float, binary32, ofBits, lt}
 use Rattle.relay_fsm.specs.declared.Mode.{Mode}
 use Rattle.relay_fsm.specs.declared.Mode.the-variants.{Disarmed, Terminated}
 use Rattle.relay_fsm.specs.Mode.{isAirborneOf, rankOf}
-use Rattle.falcon_core.specs.declared.state.Tick.{Tick}
-use Rattle.falcon_core.specs.Milestone.{heightOf}
+use Rattle.falcon_guidance.specs.declared.state.Tick.{Tick}
+use Rattle.falcon_flight.specs.Milestone.{heightOf}
 use Rattle.falcon_core.specs.Land.{landedOf, throughLandOf}
 use Rattle.falcon_core.specs.Calls.{Request, ticks, reports}
 use Rattle.sheet.specs.Lists.{Call, Place, Began, taken, placeFrom, placeAt, nextPlace, latchOf, calm, calmFrom, ticksFrom}

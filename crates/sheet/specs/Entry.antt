@@ -7,8 +7,8 @@ use lib.ListN.{length, drop}
 use Rattle.falcon_core.specs.declared.state.Supervisor.{Supervisor}
 use Rattle.falcon_core.specs.declared.calls.Answered.{Answered}
 use Rattle.falcon_core.specs.Calls.{numbersOf}
-use Rattle.sheet.specs.Line.{answerWidth, Reading, read, broken, readLine, lineOf}
-use Rattle.sheet.specs.Kinds.{Asked, refuses, requestOf, answeredBy}
+use Rattle.columns.specs.Line.{answerWidth, Reading, read, broken, readLine, lineOf}
+use Rattle.requests.specs.Kinds.{Asked, refuses, requestOf, answeredBy}
 
 -- 9: "answer buffer under 110 bytes; nothing written"
 abbrev pub shortBuffer : ℕ

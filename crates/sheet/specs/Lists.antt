@@ -9,12 +9,12 @@ use Rattle.relay_fsm.specs.declared.Mode.the-variants.{Disarmed}
 use Rattle.relay_batt.specs.declared.battery.Battery.{Battery}
 use Rattle.relay_batt.specs.Battery.{openedOf, updateOf}
 use Rattle.relay_batt.specs.Config.{forOpeningVoltsOf}
-use Rattle.falcon_core.specs.declared.state.Tick.{Tick}
+use Rattle.falcon_guidance.specs.declared.state.Tick.{Tick}
 use Rattle.falcon_core.specs.declared.state.Supervisor.{Supervisor}
 use Rattle.falcon_core.specs.declared.calls.Answered.{Answered}
 use Rattle.falcon_core.specs.State.{unopened}
 use Rattle.falcon_core.specs.Calls.{Request, opens, ticks, reports, commands, points, zones}
-use Rattle.sheet.specs.Kinds.{Asked, refuses, asks, answeredBy}
+use Rattle.requests.specs.Kinds.{Asked, refuses, asks, answeredBy}
 use Rattle.sheet.specs.Entry.{askedWith}
 
 -- "by line or by lent values": a line with its answer buffer in full, or what is asked by values

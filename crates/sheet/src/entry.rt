@@ -4,18 +4,18 @@ ghost use mathlib.Core.List.{_++_};
 ghost use Prim.Native.Nat.{_≤_};
 ghost use lib.ListN.{length, drop};
 ghost use Rattle.falcon_core.specs.Calls.{numbersOf};
-ghost use Rattle.sheet.specs.Line.{answerWidth, lineOf};
-ghost use Rattle.sheet.specs.Kinds.{answeredBy};
+ghost use Rattle.columns.specs.Line.{answerWidth, lineOf};
+ghost use Rattle.requests.specs.Kinds.{answeredBy};
 ghost use Rattle.sheet.specs.Entry.{askedLine, lineStep, bufferAfter};
-use crate::field::write_numbers;
-use crate::kinds::numbers_step;
-use crate::line::ANSWER;
-use crate::line::LineRead;
-use crate::line::read_line;
+use columns::field::write_numbers;
+use columns::line::ANSWER;
+use columns::line::LineRead;
+use columns::line::read_line;
 use falcon_core::calls::Answer;
 use falcon_core::calls::Answered;
 use falcon_core::calls::refused;
 use falcon_core::state::Supervisor;
+use requests::kinds::numbers_step;
 
 // 2: not a sheet line.
 pub const NOT_A_LINE: u32 = 2;

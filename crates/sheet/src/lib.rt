@@ -1,9 +1,3 @@
-// The sheet: its fields, its lines, and many lines.
-
+// A call by line, and lists of calls.
 pub mod entry;
-pub mod field;
-pub mod kinds;
-pub mod line;
-pub mod lines;
 pub mod lists;
-pub mod many;

@@ -3,7 +3,7 @@ use mathlib.Core.List.{_++_}
 use lib.ListN.{drop}
 use Rattle.falcon_core.specs.declared.calls.Answered.{Answered}
 use Rattle.falcon_core.specs.Calls.{numbersOf}
-use Rattle.sheet.specs.Line.{answerWidth, lineOf}
+use Rattle.columns.specs.Line.{answerWidth, lineOf}
 use Rattle.sheet.proofs.Asking.{short-state, short-refusal, short-buffer, full-step, full-buffer}
 use Rattle.sheet.specs.Entry.{lineStep, bufferAfter}
 use borrow.Author.Tests.{lt-ltb, le-ltb, le-leb, lt-leb, eq-eqb, ne-eqb}

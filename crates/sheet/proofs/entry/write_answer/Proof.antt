@@ -1,5 +1,5 @@
 use Rattle.sheet.proofs.Answer.{numbers-count}
-use Rattle.sheet.specs.Line.{lineOf}
+use Rattle.columns.specs.Line.{lineOf}
 use borrow.Author.Tests.{lt-ltb, le-ltb, le-leb, lt-leb, eq-eqb, ne-eqb}
 use borrow.Author.Needs.{needs}
 use Rattle.sheet.proofs.entry.write_answer.Statement.{statement}
@@ -7,7 +7,7 @@ use Rattle.sheet.proofs.entry.write_answer.Tie as tie
 use Rattle.sheet.proofs.entry.write_answer.Reads as reads
 use Rattle.sheet.proofs.entry.write_answer.Lts as lts
 use Rattle.falcon_core.proofs.calls.Answer.numbers.Reads as numbers-reads
-use Rattle.sheet.proofs.field.write_numbers.Reads as write-numbers-reads
+use Rattle.columns.proofs.field.write_numbers.Reads as write-numbers-reads
 
 -- src/entry.rt:44:19
 numbers-requires : tie.Need-numbers-requires

@@ -1,9 +1,7 @@
-use native.Mathlib.Omega.{arith}
 use mathlib.Core.Path.{refl, _∙_}
 use Rattle.falcon_core.proofs.Answers.{points-accepted}
 use Prim.Native.Nat.{_%_}
 use lib.ListN.{length}
-use Rattle.falcon_core.proofs.Waypoints.{tried-lent}
 use Rattle.falcon_core.specs.Calls.{stepOf, refusalOf, afterOf, outputOf}
 use borrow.Author.Tests.{eq-eqb, ne-eqb}
 use borrow.Author.Needs.{needs}
@@ -31,18 +29,15 @@ returns-3 : tie.Need-returns-3
 unfolding stepOf refusalOf afterOf outputOf
 returns-3 c = (simp (c .refused3 .ensures, c .before .if3 .taken, c .before .before .if2 .left, eq-eqb (length (c .before .before .before .before .before .before .args .lent .now) % 3) 0 (c .before .before .before .before .if1 .left)), refl)
 
-tried-requires : tie.Need-tried-requires
-tried-requires c κs = search needs
-
-all-admissible-requires : tie.Need-all-admissible-requires
-all-admissible-requires c κs = omega (arith, c .tried .ensures, tried-lent (c .before .before .before .before .before .before .before .args .lent .now))
+tried-admissible-requires : tie.Need-tried-admissible-requires
+tried-admissible-requires c κs = search needs
 
 refused-requires-4 : tie.Need-refused-requires-4
 refused-requires-4 c κs = search needs
 
 returns-4 : tie.Need-returns-4
 unfolding stepOf refusalOf afterOf outputOf
-returns-4 c = (simp (c .refused4 .ensures, simp (c .before .before .all-admissible .ensures, c .before .before .before .tried .ensures) at (c .before .if4 .taken), c .before .before .before .before .before .if3 .left, c .before .before .before .before .before .before .if2 .left, eq-eqb (length (c .before .before .before .before .before .before .before .before .before .before .args .lent .now) % 3) 0 (c .before .before .before .before .before .before .before .before .if1 .left)), refl)
+returns-4 c = (simp (c .refused4 .ensures, simp (c .before .before .tried-admissible .ensures) at (c .before .if4 .taken), c .before .before .before .before .if3 .left, c .before .before .before .before .before .if2 .left, eq-eqb (length (c .before .before .before .before .before .before .before .before .before .args .lent .now) % 3) 0 (c .before .before .before .before .before .before .before .if1 .left)), refl)
 
 loaded-requires : tie.Need-loaded-requires
 loaded-requires c κs = search needs
@@ -53,8 +48,8 @@ accepted-requires c κs = search needs
 returns-5 : tie.Need-returns-5
 returns-5 c = (
   c .accepted .ensures
-      ∙ points-accepted _ (c .before .before .before .before .before .before .before .before .before .before .before .before .args .lent .now) _ _ _ (c .before .before .loaded .ensures) (c .before .before .before .before .before .tried .ensures) (c .before .before .before .before .all-admissible .ensures)
-      (eq-eqb (length (c .before .before .before .before .before .before .before .before .before .before .before .before .args .lent .now) % 3) 0 (c .before .before .before .before .before .before .before .before .before .before .if1 .left)) (c .before .before .before .before .before .before .before .before .if2 .left) (c .before .before .before .before .before .before .before .if3 .left) (c .before .before .before .if4 .left),
+      ∙ points-accepted _ (c .before .before .before .before .before .before .before .before .before .before .before .args .lent .now) _ _ (c .before .before .loaded .ensures) (c .before .before .before .before .tried-admissible .ensures)
+      (eq-eqb (length (c .before .before .before .before .before .before .before .before .before .before .before .args .lent .now) % 3) 0 (c .before .before .before .before .before .before .before .before .before .if1 .left)) (c .before .before .before .before .before .before .before .if2 .left) (c .before .before .before .before .before .before .if3 .left) (c .before .before .before .if4 .left),
   refl,
 )
 
@@ -68,8 +63,7 @@ set-mission-waypoints-spec =
     returns-2
     refused-requires-3
     returns-3
-    tried-requires
-    all-admissible-requires
+    tried-admissible-requires
     refused-requires-4
     returns-4
     loaded-requires

@@ -1,0 +1,139 @@
+-- A line of numbers is read as these numbers, a line that is read is theirs, and a line over its limit is broken. Assumes nothing.
+use Prim.Native.Nat.{ℕ, zero, suc, _+_, _*_, _/_, _%_, _≤_, _<_}
+use native.Mathlib.Omega.{arith}
+use native.Mathlib.Decide.{ℕ-discrete, decLe}
+use mathlib.Core.Path.{_≡_, refl, sym, ap, _∙_}
+use mathlib.Core.Bool.{and-false}
+use mathlib.Core.List.{List, [], _∷_, _++_}
+use lib.ListN.{length, take, drop, length-drop, take-append-drop}
+use lib.Seq.{take-at, drop-at, length-take-le}
+use borrow.Author.Tests.{lt-ltb, le-ltb, le-leb, lt-leb, eq-eqb, ne-eqb}
+use Rattle.columns.specs.declared.field.FieldRead.{FieldRead}
+use Rattle.columns.specs.declared.field.FieldRead.the-variants.{Number, Bad}
+use Rattle.columns.specs.Field.{fieldWidth, readField, fieldOf}
+use Rattle.columns.specs.Line.{Reading, read, broken, onto, before, fields, lengthOk, readWithin, lineOf, InRange}
+use Rattle.columns.proofs.FieldAgain.{length-field, read-written, read-only, read-range}
+use Rattle.columns.proofs.Writing.{length-line}
+
+-- ---- lengths
+
+module _ (limit : ℕ) (s : List ℕ) where
+  pub within-ok : 0 < length s → length s % fieldWidth ≡ 0 → length s ≤ fieldWidth * limit → readWithin limit s ≡ fields (length s / fieldWidth) s
+  unfolding readWithin lengthOk
+  within-ok some whole most = simp (lt-ltb 0 (length s) some, eq-eqb (length s % fieldWidth) 0 whole, le-leb (length s) (fieldWidth * limit) most)
+
+  -- "length 0"
+  pub within-none : length s ≡ 0 → readWithin limit s ≡ broken
+  unfolding readWithin lengthOk
+  within-none none = simp (le-ltb 0 (length s) (omega arith))
+
+  -- "no multiple of 11"
+  pub within-uneven : (length s % fieldWidth ≡ 0 → ⊥) → readWithin limit s ≡ broken
+  unfolding readWithin lengthOk
+  within-uneven uneven = simp (ne-eqb (length s % fieldWidth) 0 uneven, and-false)
+
+  -- "over 1,430"
+  pub within-long : fieldWidth * limit < length s → readWithin limit s ≡ broken
+  unfolding readWithin lengthOk
+  within-long long = simp (lt-leb (length s) (fieldWidth * limit) long, and-false)
+
+-- a line over its limit is broken whatever stands behind the limit
+pub within-cut : (limit : ℕ) (s : List ℕ) → fieldWidth * limit < length s → readWithin limit s ≡ readWithin limit (take (fieldWidth * limit + 1) s)
+within-cut limit s long =
+    let cut : length (take (fieldWidth * limit + 1) s) ≡ fieldWidth * limit + 1 = length-take-le (fieldWidth * limit + 1) s (omega arith) in
+    within-long limit s long ∙ sym (within-long limit (take (fieldWidth * limit + 1) s) (omega arith))
+
+-- ---- numbers written are read
+
+fields-again : (ns : List ℕ) → InRange ns → fields (length ns) (lineOf ns) ≡ read ns
+unfolding fields lineOf before onto
+fields-again [] r = refl
+fields-again (n ∷ ns) r =
+    let field : readField (take fieldWidth (fieldOf n ++ lineOf ns)) ≡ Number n =
+    ap readField (take-at (fieldOf n) (lineOf ns) fieldWidth (length-field n)) ∙ read-written n (r .0) in
+    let rest : fields (length ns) (drop fieldWidth (fieldOf n ++ lineOf ns)) ≡ read ns =
+    ap (fields (length ns)) (drop-at (fieldOf n) (lineOf ns) fieldWidth (length-field n)) ∙ fields-again ns (r .1) in
+    ap (λ (f : FieldRead). before f (fields (length ns) (drop fieldWidth (fieldOf n ++ lineOf ns)))) field
+    ∙ ap (onto n) rest
+
+-- "Sheet numbers written are the numbers read again", of a line
+pub line-again : (limit : ℕ) (ns : List ℕ) → 0 < length ns → length ns ≤ limit → InRange ns → readWithin limit (lineOf ns) ≡ read ns
+line-again limit ns some most r =
+    let long : length (lineOf ns) ≡ fieldWidth * length ns = length-line ns in
+    let count : length (lineOf ns) / fieldWidth ≡ length ns = omega arith in
+    within-ok limit (lineOf ns) (omega arith) (omega arith) (omega arith)
+    ∙ ap (λ (k : ℕ). fields k (lineOf ns)) count
+    ∙ fields-again ns r
+
+-- ---- numbers read are those written
+
+pub broken-never : {P : Type 0} (ns : List ℕ) → broken ≡ read ns → P
+broken-never ns h = let z : _≡_ {A = ℕ} 0 1 = cc in absurd (omega arith)
+
+-- a first field and the rest, both read
+record Before (f : FieldRead) (r : Reading) (ns : List ℕ) : Type 0 where
+  first : ℕ
+  rest : List ℕ
+  is-field : f ≡ Number first
+  is-rest : r ≡ read rest
+  is : first ∷ rest ≡ ns
+
+before-is : (f : FieldRead) (r : Reading) (ns : List ℕ) → before f r ≡ read ns → Before f r ns
+unfolding before onto
+before-is (Number n) (read ms) ns h = record { first = n; rest = ms; is-field = refl; is-rest = refl; is = cc }
+before-is (Number n) broken ns h = broken-never ns h
+before-is Bad r ns h = broken-never ns h
+
+-- a line of these numbers, so many at most
+pub record IsLine (limit : ℕ) (s ns : List ℕ) : Type 0 where
+  pub is : s ≡ lineOf ns
+  pub some : 0 < length ns
+  pub most : length ns ≤ limit
+  pub range : InRange ns
+
+record FieldsAre (k : ℕ) (s ns : List ℕ) : Type 0 where
+  is : s ≡ lineOf ns
+  count : length ns ≡ k
+  range : InRange ns
+
+fields-only : (k : ℕ) (s ns : List ℕ) → length s ≡ fieldWidth * k → fields k s ≡ read ns → FieldsAre k s ns
+unfolding fields lineOf
+fields-only zero [] [] long h = record { is = refl; count = refl; range = tt }
+fields-only zero [] (n ∷ ns) long h = let z : _≡_ {A = ℕ} 0 1 = cc in absurd (omega arith)
+fields-only zero (b ∷ s) ns long h = absurd (omega arith)
+fields-only (suc k) s ns long h =
+    let b : Before (readField (take fieldWidth s)) (fields k (drop fieldWidth s)) ns =
+    before-is (readField (take fieldWidth s)) (fields k (drop fieldWidth s)) ns h in
+    let r : FieldsAre k (drop fieldWidth s) (b .rest) =
+    fields-only k (drop fieldWidth s) (b .rest) (length-drop fieldWidth s ∙ omega arith) (b .is-rest) in
+    let front : take fieldWidth s ≡ fieldOf (b .first) = read-only (take fieldWidth s) (b .first) (b .is-field) in
+    let both : FieldsAre (suc k) s (b .first ∷ b .rest) =
+    record {
+      is =
+          sym (take-append-drop fieldWidth s)
+          ∙ ap (λ (l : List ℕ). l ++ drop fieldWidth s) front
+          ∙ ap (λ (l : List ℕ). fieldOf (b .first) ++ l) (r .is);
+      count = ap suc (r .count);
+      range = (read-range (take fieldWidth s) (b .first) (b .is-field), r .range);
+    } in
+    rw (b .is) at both
+
+-- a line that is read is the line of the numbers read
+pub line-only : (limit : ℕ) (s ns : List ℕ) → readWithin limit s ≡ read ns → IsLine limit s ns
+line-only limit s ns h =
+    elim (ℕ-discrete (length s) 0) [
+      | yes none ↦ broken-never ns (sym (within-none limit s none) ∙ h)
+      | no q ↦
+          elim (ℕ-discrete (length s % fieldWidth) 0) [
+            | no uneven ↦ broken-never ns (sym (within-uneven limit s uneven) ∙ h)
+            | yes whole ↦
+                elim (decLe (length s) (fieldWidth * limit)) [
+                  | no long ↦ broken-never ns (sym (within-long limit s (omega arith)) ∙ h)
+                  | yes most ↦
+                      let f : FieldsAre (length s / fieldWidth) s ns =
+                      fields-only (length s / fieldWidth) s ns (omega arith) (sym (within-ok limit s (omega arith) whole most) ∙ h) in
+                      let count : length ns ≡ length s / fieldWidth = f .count in
+                      record { is = f .is; some = omega arith; most = omega arith; range = f .range }
+                ]
+          ]
+    ]

@@ -1,0 +1,132 @@
+-- `read_within` is `readWithin`: the length is tried first, and then a turn reads a field.
+use Prim.Native.Nat.{_-_, _/_, _≤_}
+use native.Mathlib.Omega.{arith}
+use mathlib.Core.Path.{_≡_, refl, sym, _∙_}
+use lib.ListN.{length, length-set}
+use lib.Seq.{length-take-le}
+use borrow.Author.Needs.{needs}
+use Rattle.columns.specs.Field.{fieldWidth}
+use Rattle.columns.specs.Line.{readingOf, readWithin, fields}
+use Rattle.columns.proofs.LineAgain.{within-ok, within-none, within-uneven, within-long}
+use Rattle.columns.proofs.LineTurns.{ReadTo, read-first, read-next, read-bad, read-last}
+use Rattle.columns.proofs.line.read_within.Statement.{statement}
+use Rattle.columns.proofs.line.read_within.Tie as tie
+
+abbrev Inv-loop : tie.InvT-loop
+Inv-loop line limit numbers₀ n count at₀ k₀ numbers at k = ReadTo line count numbers at k × (length numbers ≡ length numbers₀)
+
+abbrev μ-loop : tie.MeasureT-loop
+μ-loop line limit numbers₀ n count at₀ k₀ numbers at k = count - k
+
+-- at the loop the length has been tried
+even : (c : tie.At-loop Inv-loop μ-loop)
+    → let a = c .before .before .before .before .before .before .args in
+    readWithin (a .limit) (a .line .now) ≡ fields (length (a .line .now) / fieldWidth) (a .line .now)
+even c =
+    let a = c .before .before .before .before .before .before .args in
+    within-ok (a .limit) (a .line .now) (omega arith) (c .before .before .if2 .left) (omega arith)
+
+returns : tie.Need-returns Inv-loop μ-loop
+unfolding readingOf
+returns c =
+    let a = c .before .before .before .args in
+    (sym (within-none (a .limit) (a .line .now) (c .if1 .taken)), tt)
+
+returns-2 : tie.Need-returns-2 Inv-loop μ-loop
+unfolding readingOf
+returns-2 c =
+    let a = c .before .before .before .before .args in
+    (sym (within-uneven (a .limit) (a .line .now) (c .if2 .taken)), tt)
+
+returns-3 : tie.Need-returns-3 Inv-loop μ-loop
+unfolding readingOf
+returns-3 c =
+    let a = c .before .before .before .before .before .args in
+    (sym (within-long (a .limit) (a .line .now) (omega arith)), tt)
+
+loop-holds : tie.Need-loop-holds Inv-loop μ-loop
+loop-holds c = (read-first _ _ _, refl)
+
+read-field-requires : tie.Need-read-field-requires Inv-loop μ-loop
+read-field-requires c κs = search needs
+
+enum-known-v : tie.Need-enum-known-v Inv-loop μ-loop
+enum-known-v c = search needs
+
+enum-told : tie.Need-enum-told Inv-loop μ-loop
+enum-told c = search needs
+
+same-length : tie.Need-same-length Inv-loop μ-loop
+same-length c = c .before .before .before .before .loop .inv .1
+
+returns-4 : tie.Need-returns-4 Inv-loop μ-loop
+unfolding readingOf
+returns-4 c =
+    let turn = c .before .before .before in
+    let l = turn .before .loop in
+    let a = turn .before .before .before .before .before .before .before .args in
+    let bad = sym (c .before .before .read-field .ensures) ∙ c .enum-told .given .1 in (
+      sym (even (turn .before)
+          ∙ read-bad (a .line .now) (length (a .line .now) / fieldWidth) (l .numbers) (l .at) (l .k) (omega arith) (turn .loop-test .taken) (l .inv .0) bad),
+      tt,
+    )
+
+mul-numbers : tie.Need-mul-numbers Inv-loop μ-loop
+mul-numbers c = search needs
+
+slice-write-numbers : tie.Need-slice-write-numbers Inv-loop μ-loop
+slice-write-numbers c = search needs
+
+add-at : tie.Need-add-at Inv-loop μ-loop
+add-at c = search needs
+
+add-k : tie.Need-add-k Inv-loop μ-loop
+add-k c = search needs
+
+loop-less : tie.Need-loop-less Inv-loop μ-loop
+loop-less c = search needs
+
+loop-again : tie.Need-loop-again Inv-loop μ-loop
+loop-again c =
+    let turn = c .before .before .before .before in
+    let l = turn .before .loop in
+    let a = turn .before .before .before .before .before .before .before .args in
+    let number = sym (c .before .before .before .read-field .ensures) ∙ c .before .v .given .1 in (
+      read-next (a .line .now) (length (a .line .now) / fieldWidth) (l .numbers) (l .at) (l .k) (omega arith) (turn .loop-test .taken) (l .inv .0) _
+          (omega arith) number,
+      simp length-set (l .inv .1),
+    )
+
+same-length-2 : tie.Need-same-length-2 Inv-loop μ-loop
+same-length-2 c = c .before .loop .inv .1
+
+returns-5 : tie.Need-returns-5 Inv-loop μ-loop
+unfolding readingOf
+returns-5 c =
+    let l = c .before .loop in
+    let room : l .k ≤ length (l .numbers) = omega (arith, l .inv .0 .most, l .inv .1) in
+    (sym (even (c .before) ∙ read-last _ _ _ _ _ (c .loop-test .left) (l .inv .0)), (room, sym (length-take-le _ _ room)))
+
+pub read-within-spec : {M : Type 1} → statement M
+read-within-spec =
+    tie.close
+    (tie.spec
+    Inv-loop
+    μ-loop
+    returns
+    returns-2
+    returns-3
+    loop-holds
+    read-field-requires
+    enum-known-v
+    enum-told
+    same-length
+    returns-4
+    mul-numbers
+    slice-write-numbers
+    add-at
+    add-k
+    loop-less
+    loop-again
+    same-length-2
+    returns-5)

@@ -1,0 +1,76 @@
+-- A line of document 01's sheet: the numbers of its fields, or refusal 2.
+use Prim.Native.Nat.{ℕ, zero, suc, _+_, _*_, _/_, _%_, _^_, _≤_, _<_}
+use mathlib.Core.Path.{_≡_}
+use mathlib.Core.Bool.{Bool, cond, _&&_}
+use mathlib.Core.List.{List, [], _∷_, _++_}
+use lib.Dec.{eqb, leb, ltb}
+use lib.ListN.{length, take, drop}
+use Rattle.columns.specs.declared.field.FieldRead.{FieldRead}
+use Rattle.columns.specs.declared.field.FieldRead.the-variants.{Number, Bad}
+use Rattle.columns.specs.declared.line.LineRead.{LineRead}
+use Rattle.columns.specs.declared.line.LineRead.the-variants.{Numbers, Broken}
+use Rattle.columns.specs.Field.{fieldWidth, readField, fieldOf}
+
+-- "At most 130 fields"
+abbrev pub lineFields : ℕ
+lineFields = 130
+
+-- "Answer, ten fields"
+abbrev pub answerFields : ℕ
+answerFields = 10
+
+-- "110 bytes"
+abbrev pub answerWidth : ℕ
+answerWidth = fieldWidth * answerFields
+
+-- what a line says: its numbers, or that it is no sheet line
+pub data Reading : Type 0 where
+  read : List ℕ → Reading
+  broken : Reading
+
+-- a number in front of what the rest says
+unfoldable pub onto : ℕ → Reading → Reading
+onto n (read ns) = read (n ∷ ns)
+onto n broken = broken
+
+-- a field in front of what the rest says: "a bad field" breaks the line
+unfoldable pub before : FieldRead → Reading → Reading
+before (Number n) r = onto n r
+before Bad r = broken
+
+-- the first k fields
+unfoldable pub fields : ℕ → List ℕ → Reading
+fields zero s = read []
+fields (suc k) s = before (readField (take fieldWidth s)) (fields k (drop fieldWidth s))
+
+-- refusal 2's other causes: "length 0, no multiple of 11, over 1,430"
+unfoldable pub lengthOk : ℕ → ℕ → Bool
+lengthOk limit n = ltb 0 n && (eqb (n % fieldWidth) 0 && leb n (fieldWidth * limit))
+
+-- what a line says that may have so many fields
+unfoldable pub readWithin : ℕ → List ℕ → Reading
+readWithin limit s = cond (lengthOk limit (length s)) (fields (length s / fieldWidth) s) broken
+
+-- what a line of document 01's kinds says
+abbrev pub readLine : List ℕ → Reading
+readLine s = readWithin lineFields s
+
+-- the line of several numbers: their fields, one after the other
+unfoldable pub lineOf : List ℕ → List ℕ
+lineOf [] = []
+lineOf (n ∷ ns) = fieldOf n ++ lineOf ns
+
+-- "0..4294967295", of each number
+abbrev pub InRange : List ℕ → Type 0
+InRange [] = Unit
+InRange (n ∷ ns) = (n < 2 ^ 32) × InRange ns
+
+-- what `read_line` answers, with the array that it fills
+unfoldable pub readingOf : LineRead → List ℕ → Reading
+readingOf (Numbers k) a = read (take k a)
+readingOf Broken a = broken
+
+-- the count that `read_line` answers is one of the array's places
+abbrev pub Counted : LineRead → List ℕ → Type 0
+Counted (Numbers k) a = (k ≤ length a) × (k ≡ length (take k a))
+Counted Broken a = Unit

@@ -1,0 +1,3 @@
+// Fields and lines of a sheet: eleven bytes a number.
+pub mod field;
+pub mod line;

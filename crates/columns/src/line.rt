@@ -1,0 +1,63 @@
+// A line: fields, one after the other.
+
+ghost use Prim.Native.Nat.{_≤_};
+ghost use mathlib.Core.Path.{_≡_};
+ghost use lib.ListN.{length};
+ghost use Rattle.columns.specs.Line.{lineFields, readWithin, readLine, readingOf, Counted};
+use crate::field::FIELD;
+use crate::field::FieldRead;
+use crate::field::read_field;
+
+// The most fields of a line.
+pub const LINE_FIELDS: usize = 130;
+
+// The fields of an ordinary answer.
+pub const ANSWER_FIELDS: usize = 10;
+
+// The bytes of an ordinary answer.
+pub const ANSWER: usize = FIELD * ANSWER_FIELDS;
+
+// What a line says: how many numbers, which the caller's array holds.
+pub enum LineRead {
+    Numbers(usize),
+    Broken,
+}
+
+// The numbers of a line that may have `limit` fields.
+pub(crate) fn read_within(line: &[u8], limit: usize, numbers: &mut [u32]) -> LineRead
+    requires { ⌜ limit ≤ length (now numbers) ⌝ }
+    ensures { λ r. ⌜ readingOf r (now (numbers .exit)) ≡ readWithin limit (now (line .entry)) ⌝ }
+    ensures { λ r. ⌜ Counted r (now (numbers .exit)) ⌝ }
+{
+    let n = line.len();
+    if n == 0 {
+        return LineRead::Broken;
+    }
+    if n % FIELD != 0 {
+        return LineRead::Broken;
+    }
+    let count = n / FIELD;
+    if limit < count {
+        return LineRead::Broken;
+    }
+    let mut at = 0;
+    let mut k = 0;
+    while k < count {
+        let FieldRead::Number(v) = read_field(line, at) else {
+            return LineRead::Broken;
+        };
+        numbers[k] = v;
+        at += FIELD;
+        k += 1;
+    }
+    LineRead::Numbers(k)
+}
+
+// The numbers of a line of document 01's kinds.
+pub(crate) fn read_line(line: &[u8], numbers: &mut [u32]) -> LineRead
+    requires { ⌜ lineFields ≤ length (now numbers) ⌝ }
+    ensures { λ r. ⌜ readingOf r (now (numbers .exit)) ≡ readLine (now (line .entry)) ⌝ }
+    ensures { λ r. ⌜ Counted r (now (numbers .exit)) ⌝ }
+{
+    read_within(line, LINE_FIELDS, numbers)
+}

@@ -1,0 +1,42 @@
+use Rattle.falcon_failsafe.specs.Preflight.{readinessRowsOf}
+use borrow.Author.Needs.{needs}
+use Rattle.falcon_failsafe.proofs.preflight.readiness_rows.Statement.{statement}
+use Rattle.falcon_failsafe.proofs.preflight.readiness_rows.Tie as tie
+
+geofence-sane-requires : tie.Need-geofence-sane-requires
+geofence-sane-requires c κs = search needs
+
+set-requires : tie.Need-set-requires
+set-requires c κs = search needs
+
+set-requires-2 : tie.Need-set-requires-2
+set-requires-2 c κs = search needs
+
+set-requires-3 : tie.Need-set-requires-3
+set-requires-3 c κs = search needs
+
+outside-geofence-requires : tie.Need-outside-geofence-requires
+outside-geofence-requires c κs = search needs
+
+set-requires-4 : tie.Need-set-requires-4
+set-requires-4 c κs = search needs
+
+set-requires-5 : tie.Need-set-requires-5
+set-requires-5 c κs = search needs
+
+returns : tie.Need-returns
+unfolding readinessRowsOf
+returns c = simp (c .set5 .ensures, c .before .before .before .set4 .ensures, c .before .before .before .before .outside-geofence .ensures, c .before .before .before .before .before .set3 .ensures, c .before .before .before .before .before .before .before .set2 .ensures, c .before .before .before .before .before .before .before .before .before .before .set .ensures, c .before .before .before .before .before .before .before .before .before .before .before .geofence-sane .ensures)
+
+pub readiness-rows-spec : {M : Type 1} → statement M
+readiness-rows-spec =
+    tie.close
+    (tie.spec
+    geofence-sane-requires
+    set-requires
+    set-requires-2
+    set-requires-3
+    outside-geofence-requires
+    set-requires-4
+    set-requires-5
+    returns)

@@ -1,0 +1,17 @@
+use Rattle.falcon_flight.specs.Milestone.{arrivedOf}
+use borrow.Author.Needs.{needs}
+use Rattle.falcon_flight.proofs.milestone.arrived.Statement.{statement}
+use Rattle.falcon_flight.proofs.milestone.arrived.Tie as tie
+
+current-waypoint-requires : tie.Need-current-waypoint-requires
+current-waypoint-requires c κs = search needs
+
+distance3-requires : tie.Need-distance3-requires
+distance3-requires c κs = search needs
+
+returns : tie.Need-returns
+unfolding arrivedOf
+returns c = simp (c .distance3 .ensures, c .before .current-waypoint .ensures)
+
+pub arrived-spec : {M : Type 1} → statement M
+arrived-spec = tie.close (tie.spec current-waypoint-requires distance3-requires returns)

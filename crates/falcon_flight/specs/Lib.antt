@@ -1,0 +1,3 @@
+pub mod Milestone
+pub mod Setpoint
+pub mod Tick

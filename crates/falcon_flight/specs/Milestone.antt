@@ -1,0 +1,102 @@
+-- The milestone paragraph of `step`: altitude, home and ground reached, and the mission's legs.
+use Prim.Native.Nat.{ℕ, _+_}
+use mathlib.Core.Bool.{Bool, cond, _&&_}
+use mathlib.Core.Option.{Option, none, some}
+use lib.Dec.{ltb}
+use lib.Ieee.{Float, binary32, ofBits, add, sub, mul, neg, lt}
+use Rattle.relay_math.specs.Root.{root}
+use Rattle.relay_fsm.specs.declared.Mode.{Mode}
+use Rattle.relay_fsm.specs.declared.Mode.the-variants.{Disarmed, Armed, Takeoff, Loiter, Mission, Land, Rtl, Terminated}
+use Rattle.relay_fsm.specs.declared.Event.{Event}
+use Rattle.relay_fsm.specs.declared.Event.the-variants.{ReachedAltitude, ReachedHome, Touchdown, RequestRtl}
+use Rattle.relay_fsm.specs.Mode.{isMode}
+use Rattle.relay_fsm.specs.Fsm.{onOf}
+use Rattle.falcon_guidance.specs.declared.state.Point.{Point}
+use Rattle.falcon_guidance.specs.declared.state.Config.{Config}
+use Rattle.falcon_guidance.specs.declared.state.Tick.{Tick}
+use Rattle.falcon_guidance.specs.declared.state.Mission.{Mission as MissionState}
+use Rattle.falcon_failsafe.specs.declared.state.FlightSupervisor.{FlightSupervisor}
+use Rattle.falcon_failsafe.specs.State.{withMode, withMission}
+use Rattle.falcon_guidance.specs.Geometry.{distanceOf}
+use Rattle.falcon_guidance.specs.Mission.{currentWaypointOf}
+use Rattle.falcon_failsafe.specs.Failsafe.{inFlight, modeAfter}
+
+-- the limits 0.2, 0.4 and 0.15 of `step`, and `WAYPOINT_RADIUS` 1.2
+abbrev pub altitudeMargin : Float
+altitudeMargin = ofBits binary32 0x3e4c_cccd
+
+abbrev pub homeRadius : Float
+homeRadius = ofBits binary32 0x3ecc_cccd
+
+abbrev pub touchdownAlt : Float
+touchdownAlt = ofBits binary32 0x3e19_999a
+
+abbrev pub waypointRadius : Float
+waypointRadius = ofBits binary32 0x3f99_999a
+
+-- "Height is `−p[2]`."
+unfoldable pub heightOf : Tick → Float
+heightOf t = neg (t .p .z)
+
+-- the height is above the cruise height less 0.2
+unfoldable pub highOf : Config → Tick → Bool
+highOf c t = lt (sub binary32 (c .«cruise_alt») altitudeMargin) (heightOf t)
+
+-- the horizontal distance from home is below 0.4
+unfoldable pub nearHomeOf : Config → Tick → Bool
+nearHomeOf c t = lt (distanceOf (t .p) (c .home)) homeRadius
+
+-- the height is below 0.15
+unfoldable pub nearGroundOf : Tick → Bool
+nearGroundOf t = lt (heightOf t) touchdownAlt
+
+-- `wd`: the distance of two points
+unfoldable pub distance3Of : Point → Point → Float
+distance3Of p q =
+    let dx = sub binary32 (p .x) (q .x) in
+    let dy = sub binary32 (p .y) (q .y) in
+    let dz = sub binary32 (p .z) (q .z) in
+    root (add binary32 (add binary32 (mul binary32 dx dx) (mul binary32 dy dy)) (mul binary32 dz dz))
+
+-- the current waypoint is nearer than 1.2
+unfoldable pub arrivedOf : FlightSupervisor → Tick → Bool
+arrivedOf f t = lt (distance3Of (t .p) (currentWaypointOf (f .config) (f .mission))) waypointRadius
+
+-- a further leg follows the active one
+abbrev pub moreOf : MissionState → Bool
+moreOf m = ltb (m .«wp_index» + 1) (m .«wp_count»)
+
+-- what the milestone of the mode gives the mode machine
+abbrev pub milestoneEvent : Mode → Bool → Bool → Bool → Bool → Bool → Option Event
+milestoneEvent Disarmed high home ground arrived more = none
+milestoneEvent Armed high home ground arrived more = none
+milestoneEvent Takeoff high home ground arrived more = cond high (some ReachedAltitude) none
+milestoneEvent Loiter high home ground arrived more = none
+milestoneEvent Mission high home ground arrived more = cond arrived (cond more none (some RequestRtl)) none
+milestoneEvent Land high home ground arrived more = cond ground (some Touchdown) none
+milestoneEvent Rtl high home ground arrived more = cond home (some ReachedHome) none
+milestoneEvent Terminated high home ground arrived more = none
+
+unfoldable pub milestoneGives : FlightSupervisor → Tick → Option Event
+milestoneGives f t =
+    milestoneEvent (f .fsm .mode) (highOf (f .config) t) (nearHomeOf (f .config) t) (nearGroundOf t) (arrivedOf f t) (moreOf (f .mission))
+
+-- the leg: one further in Mission where the waypoint is reached and another follows
+unfoldable pub legOf : FlightSupervisor → Tick → ℕ
+legOf f t =
+    cond (isMode (f .fsm .mode) Mission && arrivedOf f t && moreOf (f .mission)) (f .mission .«wp_index» + 1) (f .mission .«wp_index»)
+
+-- a waypoint reached in Mission: the next leg, or the return after the last
+unfoldable pub advancedOf : FlightSupervisor → FlightSupervisor
+advancedOf f =
+    cond (moreOf (f .mission))
+    (withMission f
+    (record { waypoints = f .mission .waypoints; «wp_count» = f .mission .«wp_count»; «wp_index» = f .mission .«wp_index» + 1 }))
+    (withMode f (onOf (f .fsm .mode) RequestRtl inFlight) (f .«rtl_latched»))
+
+-- the milestone paragraph
+unfoldable pub milestoneOf : FlightSupervisor → Tick → FlightSupervisor
+milestoneOf f t =
+    withMode
+    (withMission f (record { waypoints = f .mission .waypoints; «wp_count» = f .mission .«wp_count»; «wp_index» = legOf f t }))
+    (modeAfter (f .fsm .mode) (milestoneGives f t)) (f .«rtl_latched»)

@@ -1,0 +1,76 @@
+-- `step` without follow and clock, paragraph by paragraph: "latch cleared if Disarmed; checks; battery; rpm; breach; runaway; wind; mode;
+-- landing flag; hold; setpoint; `avoid`".
+use mathlib.Core.Bool.{Bool, true, false, cond}
+use mathlib.Core.List.{List, [], _∷_}
+use mathlib.Core.Option.{Option}
+use Rattle.relay_fsm.specs.declared.Mode.{Mode}
+use Rattle.relay_fsm.specs.declared.Event.{Event}
+use Rattle.relay_batt.specs.Battery.{updateOf}
+use Rattle.falcon_guidance.specs.declared.state.Tick.{Tick}
+use Rattle.falcon_failsafe.specs.declared.state.FlightSupervisor.{FlightSupervisor}
+use Rattle.falcon_flight.specs.declared.tick.TickAnswer.{TickAnswer}
+use Rattle.falcon_flight.specs.declared.tick.TickAnswer.the-variants.{MotorsOff, Setpoint}
+use Rattle.falcon_flight.specs.declared.tick.Ticked.{Ticked}
+use Rattle.falcon_failsafe.specs.State.{withBattery, withTable, withHold, withMotors}
+use Rattle.falcon_failsafe.specs.Preflight.{updatePreflightOf, escTelemetryOf}
+use Rattle.falcon_failsafe.specs.Failsafe.{clearedOf, breachedOf, breachGives, runawayOf, runawayGives, windOf, windGives}
+use Rattle.falcon_flight.specs.Milestone.{milestoneOf, milestoneGives}
+use Rattle.falcon_guidance.specs.Hold.{heldOf}
+use Rattle.falcon_flight.specs.Setpoint.{landingOf, commandedOf, motorsOffOf}
+
+-- the checks paragraph: from the battery BEFORE this tick's reading
+unfoldable pub checkedOf : FlightSupervisor → Tick → FlightSupervisor
+checkedOf f t = withTable f (updatePreflightOf (f .«check_table») (f .config) (f .battery) (f .«rtl_latched») t)
+
+-- the battery paragraph
+unfoldable pub poweredOf : FlightSupervisor → Tick → FlightSupervisor
+poweredOf f t = withBattery f (updateOf (f .battery) (t .dt) (t .reading))
+
+-- the rpm paragraph
+unfoldable pub telemetryOf : FlightSupervisor → Tick → FlightSupervisor
+telemetryOf f t = withTable f (escTelemetryOf (f .«check_table») (t .«motor_rpm»))
+
+-- the flight before the first event of the tick
+unfoldable pub sensedOf : FlightSupervisor → Tick → FlightSupervisor
+sensedOf f t = telemetryOf (poweredOf (checkedOf (clearedOf f) t) t) t
+
+-- the flight after the breach paragraph, and after each of the next three
+unfoldable pub afterBreach : FlightSupervisor → Tick → FlightSupervisor
+afterBreach f t = breachedOf (sensedOf f t) t
+
+unfoldable pub afterRunaway : FlightSupervisor → Tick → FlightSupervisor
+afterRunaway f t = runawayOf (afterBreach f t) t
+
+unfoldable pub afterWind : FlightSupervisor → Tick → FlightSupervisor
+afterWind f t = windOf (afterRunaway f t) t
+
+unfoldable pub afterMilestone : FlightSupervisor → Tick → FlightSupervisor
+afterMilestone f t = milestoneOf (afterWind f t) t
+
+-- the hold paragraph
+unfoldable pub holdingOf : FlightSupervisor → Tick → FlightSupervisor
+holdingOf f t = withHold f (heldOf (f .hold) (f .fsm .mode) t)
+
+-- "The answer is motors off, or a setpoint with landing and rearm flags."
+unfoldable pub answeredOf : FlightSupervisor → Tick → Ticked
+answeredOf f t =
+    cond (motorsOffOf (f .fsm .mode)) (record { flight = withMotors f true; answer = MotorsOff })
+    (record { flight = withMotors f false; answer = Setpoint (commandedOf f t) (landingOf f t) (f .«motors_were_off») })
+
+-- the tick
+unfoldable pub tickOf : FlightSupervisor → Tick → Ticked
+tickOf f t = answeredOf (holdingOf (afterMilestone f t) t) t
+
+-- an event given to the mode machine, if any, and the mode that it met
+pub record Given : Type 0 where
+  pub met : Mode
+  pub event : Option Event
+
+-- what a tick gives the mode machine, in its order
+unfoldable pub givenOf : FlightSupervisor → Tick → List Given
+givenOf f t =
+    record { met = sensedOf f t .fsm .mode; event = breachGives (sensedOf f t) t }
+    ∷ record { met = afterBreach f t .fsm .mode; event = runawayGives (afterBreach f t) t }
+    ∷ record { met = afterRunaway f t .fsm .mode; event = windGives (afterRunaway f t) t }
+    ∷ record { met = afterWind f t .fsm .mode; event = milestoneGives (afterWind f t) t }
+    ∷ []

@@ -1,0 +1,3 @@
+pub mod Waypoints
+pub mod KeptZones
+pub mod HoldPoint

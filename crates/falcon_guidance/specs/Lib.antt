@@ -1,0 +1,5 @@
+pub mod State
+pub mod Geometry
+pub mod Mission
+pub mod Zones
+pub mod Hold

@@ -1,0 +1,56 @@
+-- The waypoints: which are admissible, how a lent list is stored, and the one being flown to.
+use Prim.Native.Nat.{ℕ, zero, suc, _+_, _-_, _*_, _/_, min}
+use mathlib.Core.Bool.{Bool, true, cond, _&&_}
+use mathlib.Core.List.{List}
+use lib.Dec.{eqb, ltb}
+use lib.ListN.{length, getD, set, replicate}
+use lib.Ieee.{Float, nan, binary32, ofBits, sub, le}
+use lib.Ieee.Scale.{finite}
+use Rattle.falcon_guidance.specs.declared.state.Point.{Point}
+use Rattle.falcon_guidance.specs.declared.state.Config.{Config}
+use Rattle.falcon_guidance.specs.declared.state.Mission.{Mission}
+use Rattle.falcon_guidance.specs.State.{maxWaypoints, origin, nowhere}
+use Rattle.falcon_guidance.specs.Geometry.{distanceOf}
+
+-- `MISSION_MIN_ALT_AGL_M` 1.0 and `MISSION_MAX_ALT_AGL_M` 120.0
+abbrev pub minAltAgl : Float
+minAltAgl = ofBits binary32 0x3f80_0000
+
+abbrev pub maxAltAgl : Float
+maxAltAgl = ofBits binary32 0x42f0_0000
+
+-- `waypoint_admissible`: "finite, height `home[2] − z` from 1.0 to 120.0, horizontal distance at most the fence, ends included"
+unfoldable pub waypointAdmissibleOf : Config → Point → Bool
+waypointAdmissibleOf c p =
+    let agl = sub binary32 (c .home .z) (p .z) in
+    finite (p .x) && finite (p .y) && finite (p .z) && (le minAltAgl agl && le agl maxAltAgl) && le (distanceOf p (c .home)) (c .«fence_radius»)
+
+-- point i of a lent list of three numbers each
+unfoldable pub pointAtOf : List Float → ℕ → Point
+pointAtOf l i = record { x = getD l (3 * i) nan; y = getD l (3 * i + 1) nan; z = getD l (3 * i + 2) nan }
+
+-- "Only the first 16 points are tried and kept."
+unfoldable pub triedOf : List Float → ℕ
+triedOf l = min (length l / 3) maxWaypoints
+
+-- the first n points of a lent list are all admissible
+unfoldable pub allAdmissibleOf : Config → List Float → ℕ → Bool
+allAdmissibleOf c l zero = true
+allAdmissibleOf c l (suc n) = allAdmissibleOf c l n && waypointAdmissibleOf c (pointAtOf l n)
+
+-- the first n points of a lent list, each in its place, and the origin in every other
+unfoldable pub storedOf : List Float → ℕ → List Point
+storedOf l zero = replicate maxWaypoints origin
+storedOf l (suc n) = set (storedOf l n) n (pointAtOf l n)
+
+-- `set_mission_waypoints` of an accepted list: the points tried, and the first leg
+unfoldable pub loadedOf : List Float → Mission
+loadedOf l = record { waypoints = storedOf l (triedOf l); «wp_count» = triedOf l; «wp_index» = 0 }
+
+-- the waypoint in place i, the origin beyond the places
+unfoldable pub waypointAtOf : Mission → ℕ → Point
+waypointAtOf m i = cond (ltb i maxWaypoints) (getD (m .waypoints) i nowhere) origin
+
+-- `current_waypoint`: the active leg's, home where there is none
+unfoldable pub currentWaypointOf : Config → Mission → Point
+currentWaypointOf c m = cond (eqb (m .«wp_count») 0) (c .home) (waypointAtOf m (min (m .«wp_index») (m .«wp_count» - 1)))

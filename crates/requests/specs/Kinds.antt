@@ -1,0 +1,150 @@
+-- The kinds of lines: what the numbers of a line ask, or the refusal 3, 4 or 5 that fits them whatever the state.
+use Prim.Native.Nat.{ℕ, _+_, _*_}
+use mathlib.Core.Bool.{Bool, cond, not, _&&_, _||_}
+use mathlib.Core.List.{List, map}
+use lib.Dec.{eqb, leb, ltb}
+use lib.ListN.{length, getD, drop}
+use lib.Ieee.{Float, binary32, ofBits}
+use Rattle.relay_fsm.specs.declared.FoundEvent.{FoundEvent}
+use Rattle.relay_fsm.specs.declared.FoundEvent.the-variants.{Known, Unknown}
+use Rattle.relay_fsm.specs.Event.{eventAt}
+use Rattle.relay_batt.specs.declared.battery.Reading.{Reading}
+use Rattle.relay_batt.specs.declared.battery.Reading.the-variants.{Nothing, Volts, VoltsAmps}
+use Rattle.falcon_guidance.specs.declared.state.Point.{Point}
+use Rattle.falcon_failsafe.specs.declared.state.Opening.{Opening}
+use Rattle.falcon_guidance.specs.declared.state.Tick.{Tick}
+use Rattle.falcon_core.specs.declared.state.Supervisor.{Supervisor}
+use Rattle.falcon_core.specs.declared.calls.Answered.{Answered}
+use Rattle.falcon_guidance.specs.State.{pointOf}
+use Rattle.falcon_core.specs.Calls.{Request, opens, ticks, reports, commands, points, zones, wrongCount, outOfRange, refusedOf, stepOf}
+
+-- what a line asks, or the refusal that fits it whatever the state
+pub data Asked : Type 0 where
+  refuses : ℕ → Asked
+  asks : Request → Asked
+
+-- the answer to what a line asks
+abbrev pub answeredBy : Supervisor → Asked → Answered
+answeredBy s (refuses n) = refusedOf s n
+answeredBy s (asks r) = stepOf s r
+
+-- 3: "kind not 1..6"
+abbrev pub unknownKind : ℕ
+unknownKind = 3
+
+-- number k of a line
+abbrev pub numberAt : List ℕ → ℕ → ℕ
+numberAt ns k = getD ns k 0
+
+-- "Floats are their bits as a number."
+abbrev pub floatAt : List ℕ → ℕ → Float
+floatAt ns k = ofBits binary32 (numberAt ns k)
+
+abbrev pub flagAt : List ℕ → ℕ → Bool
+flagAt ns k = eqb (numberAt ns k) 1
+
+-- "flag above 1"
+abbrev pub isFlag : List ℕ → ℕ → Bool
+isFlag ns k = leb (numberAt ns k) 1
+
+abbrev pub pointFrom : List ℕ → ℕ → Point
+pointFrom ns k = pointOf (floatAt ns k) (floatAt ns (k + 1)) (floatAt ns (k + 2))
+
+-- a line of so many fields in range, or 4, or 5
+abbrev pub fielded : List ℕ → ℕ → Bool → Asked → Asked
+fielded ns count ranges asked = cond (eqb (length ns) count) (cond ranges asked (refuses outOfRange)) (refuses wrongCount)
+
+-- "1 opening: home (three), fence, cruise, L, required, passed, calibration flag."
+abbrev pub openingFields : ℕ
+openingFields = 10
+
+unfoldable pub openingFrom : List ℕ → Opening
+openingFrom ns =
+    record {
+      home = pointFrom ns 1;
+      «fence_radius» = floatAt ns 4;
+      «cruise_alt» = floatAt ns 5;
+      «low_batt_v» = floatAt ns 6;
+      required = numberAt ns 7;
+      passed = numberAt ns 8;
+      «calibration_configured» = flagAt ns 9;
+    }
+
+unfoldable pub openingLine : List ℕ → Asked
+openingLine ns = fielded ns openingFields (isFlag ns 9) (asks (opens (openingFrom ns)))
+
+-- "2 tick: dt, p (three), v (three), tilt, uncertainty, motor; flags nav compromised, gnss diverged, failed, rpm;
+-- battery 0 none, 1 volts, 2 volts with amps; volts, amps (0 where absent)."
+abbrev pub tickFields : ℕ
+tickFields = 18
+
+-- "battery 0 none, 1 volts, 2 volts with amps"
+unfoldable pub readingFrom : List ℕ → Reading
+readingFrom ns =
+    cond (eqb (numberAt ns 15) 0) Nothing (cond (eqb (numberAt ns 15) 1) (Volts (floatAt ns 16)) (VoltsAmps (floatAt ns 16) (floatAt ns 17)))
+
+-- "battery above 2", and "absent volts or amps not 0"
+unfoldable pub batteryOk : List ℕ → Bool
+batteryOk ns =
+    leb (numberAt ns 15) 2
+    && (ltb 0 (numberAt ns 15) || eqb (numberAt ns 16) 0)
+    && (ltb 1 (numberAt ns 15) || eqb (numberAt ns 17) 0)
+
+unfoldable pub tickFrom : List ℕ → Tick
+tickFrom ns =
+    record {
+      dt = floatAt ns 1;
+      p = pointFrom ns 2;
+      v = pointFrom ns 5;
+      tilt = floatAt ns 8;
+      «tilt_uncertainty» = floatAt ns 9;
+      «max_motor» = floatAt ns 10;
+      «nav_compromised» = flagAt ns 11;
+      «gnss_diverged» = flagAt ns 12;
+      «failed_motor» = flagAt ns 13;
+      «motor_rpm» = flagAt ns 14;
+      reading = readingFrom ns;
+    }
+
+unfoldable pub tickOk : List ℕ → Bool
+tickOk ns = isFlag ns 11 && isFlag ns 12 && isFlag ns 13 && isFlag ns 14 && batteryOk ns
+
+unfoldable pub tickLine : List ℕ → Asked
+tickLine ns = fielded ns tickFields (tickOk ns) (asks (ticks (tickFrom ns)))
+
+-- "3 report: failed flag."
+abbrev pub reportFields : ℕ
+reportFields = 2
+
+unfoldable pub reportLine : List ℕ → Asked
+reportLine ns = fielded ns reportFields (isFlag ns 1) (asks (reports (flagAt ns 1)))
+
+-- "4 command: event, level, low throttle."
+abbrev pub commandFields : ℕ
+commandFields = 4
+
+-- "event above 11"
+abbrev pub commandWith : FoundEvent → Bool → Bool → Asked
+commandWith (Known ev) level low = asks (commands ev level low)
+commandWith Unknown level low = refuses outOfRange
+
+unfoldable pub commandLine : List ℕ → Asked
+commandLine ns =
+    fielded ns commandFields (isFlag ns 2 && isFlag ns 3) (commandWith (eventAt (numberAt ns 1)) (flagAt ns 2) (flagAt ns 3))
+
+-- "5 points: n, then 3 each."
+unfoldable pub pointsLine : List ℕ → Asked
+pointsLine ns = cond (eqb (length ns) (2 + 3 * numberAt ns 1)) (asks (points (map (ofBits binary32) (drop 2 ns)))) (refuses wrongCount)
+
+-- "6 zones: n, then 4 each."
+unfoldable pub zonesLine : List ℕ → Asked
+zonesLine ns = cond (eqb (length ns) (2 + 4 * numberAt ns 1)) (asks (zones (map (ofBits binary32) (drop 2 ns)))) (refuses wrongCount)
+
+-- "The first field is the kind"
+unfoldable pub requestOf : List ℕ → Asked
+requestOf ns =
+    cond (eqb (numberAt ns 0) 1) (openingLine ns)
+    (cond (eqb (numberAt ns 0) 2) (tickLine ns)
+    (cond (eqb (numberAt ns 0) 3) (reportLine ns)
+    (cond (eqb (numberAt ns 0) 4) (commandLine ns)
+    (cond (eqb (numberAt ns 0) 5) (pointsLine ns) (cond (eqb (numberAt ns 0) 6) (zonesLine ns) (refuses unknownKind))))))

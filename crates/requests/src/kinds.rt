@@ -1,0 +1,266 @@
+// The kinds of lines: from the numbers of a line to the call that it asks for.
+ghost use mathlib.Core.Path.{_≡_};
+ghost use mathlib.Core.List.{map, _++_};
+ghost use Prim.Native.Nat.{_+_, _<_, _≤_};
+ghost use lib.ListN.{length, drop, take};
+ghost use lib.Ieee.{binary32, ofBits};
+ghost use Rattle.requests.specs.Kinds.{answeredBy, floatAt, isFlag, flagAt, pointFrom, openingFrom, openingLine, readingFrom, batteryOk};
+ghost use Rattle.requests.specs.Kinds.{tickFrom, tickOk, tickLine, reportLine, commandLine, pointsLine, zonesLine, requestOf};
+use falcon_core::calls::Answer;
+use falcon_core::calls::Answered;
+use falcon_core::calls::refused;
+use falcon_core::state::Supervisor;
+use falcon_failsafe::state::Opening;
+use falcon_guidance::state::Point;
+use falcon_guidance::state::Tick;
+use relay_batt::Reading;
+use relay_fsm::Event;
+use relay_fsm::FoundEvent;
+use relay_math::from_bits;
+
+// 3: the kind is not 1..6.
+pub const UNKNOWN_KIND: u32 = 3;
+
+// Number k as a float.
+fn float_at(ns: &[u32], k: usize) -> f32
+    requires { ⌜ k < length (now ns) ⌝ }
+    ensures { λ r. ⌜ r ≡ floatAt (now (ns .entry)) k ⌝ }
+{
+    from_bits(ns[k])
+}
+
+// Number k as a flag.
+fn flag_at(ns: &[u32], k: usize) -> bool
+    requires { ⌜ k < length (now ns) ⌝ }
+    ensures { λ r. ⌜ r ≡ flagAt (now (ns .entry)) k ⌝ }
+{
+    ns[k] == 1
+}
+
+// Number k is 0 or 1.
+fn is_flag(ns: &[u32], k: usize) -> bool
+    requires { ⌜ k < length (now ns) ⌝ }
+    ensures { λ r. ⌜ r ≡ isFlag (now (ns .entry)) k ⌝ }
+{
+    ns[k] <= 1
+}
+
+// The point that starts at number k.
+fn point_from(ns: &[u32], k: usize) -> Point
+    requires { ⌜ k + 2 < length (now ns) ⌝ }
+    ensures { λ r. ⌜ r ≡ pointFrom (now (ns .entry)) k ⌝ }
+{
+    Point {
+        x: float_at(ns, k),
+        y: float_at(ns, k + 1),
+        z: float_at(ns, k + 2),
+    }
+}
+
+// The opening of a line of kind 1.
+fn opening_from(ns: &[u32]) -> Opening
+    requires { ⌜ length (now ns) ≡ 10 ⌝ }
+    ensures { λ r. ⌜ r ≡ openingFrom (now (ns .entry)) ⌝ }
+{
+    let home = point_from(ns, 1);
+    Opening {
+        home,
+        fence_radius: float_at(ns, 4),
+        cruise_alt: float_at(ns, 5),
+        low_batt_v: float_at(ns, 6),
+        required: ns[7],
+        passed: ns[8],
+        calibration_configured: flag_at(ns, 9),
+    }
+}
+
+// A line of kind 1.
+fn opening_line(s: Supervisor, ns: &[u32]) -> Answered
+    ensures { λ r. ⌜ r ≡ answeredBy s (openingLine (now (ns .entry))) ⌝ }
+{
+    if ns.len() != 10 {
+        return refused(s, Answer::WRONG_COUNT);
+    }
+    if is_flag(ns, 9) {
+        return s.opening(opening_from(ns));
+    }
+    refused(s, Answer::OUT_OF_RANGE)
+}
+
+// The battery reading of a line of kind 2.
+fn reading_from(ns: &[u32]) -> Reading
+    requires { ⌜ length (now ns) ≡ 18 ⌝ }
+    ensures { λ r. ⌜ r ≡ readingFrom (now (ns .entry)) ⌝ }
+{
+    let battery = ns[15];
+    if battery == 0 {
+        return Reading::Nothing;
+    }
+    let volts = float_at(ns, 16);
+    if battery == 1 {
+        return Reading::Volts(volts);
+    }
+    Reading::VoltsAmps {
+        volts,
+        amps: float_at(ns, 17),
+    }
+}
+
+// The battery number is 0, 1 or 2, and what it leaves out is 0.
+fn battery_ok(ns: &[u32]) -> bool
+    requires { ⌜ length (now ns) ≡ 18 ⌝ }
+    ensures { λ r. ⌜ r ≡ batteryOk (now (ns .entry)) ⌝ }
+{
+    let battery = ns[15];
+    (battery <= 2) & ((0 < battery) | (ns[16] == 0)) & ((1 < battery) | (ns[17] == 0))
+}
+
+// The tick of a line of kind 2.
+fn tick_from(ns: &[u32]) -> Tick
+    requires { ⌜ length (now ns) ≡ 18 ⌝ }
+    ensures { λ r. ⌜ r ≡ tickFrom (now (ns .entry)) ⌝ }
+{
+    let p = point_from(ns, 2);
+    let v = point_from(ns, 5);
+    let reading = reading_from(ns);
+    Tick {
+        dt: float_at(ns, 1),
+        p,
+        v,
+        tilt: float_at(ns, 8),
+        tilt_uncertainty: float_at(ns, 9),
+        max_motor: float_at(ns, 10),
+        nav_compromised: flag_at(ns, 11),
+        gnss_diverged: flag_at(ns, 12),
+        failed_motor: flag_at(ns, 13),
+        motor_rpm: flag_at(ns, 14),
+        reading,
+    }
+}
+
+// The flags and the battery of a line of kind 2 are in range.
+fn tick_ok(ns: &[u32]) -> bool
+    requires { ⌜ length (now ns) ≡ 18 ⌝ }
+    ensures { λ r. ⌜ r ≡ tickOk (now (ns .entry)) ⌝ }
+{
+    is_flag(ns, 11) & is_flag(ns, 12) & is_flag(ns, 13) & is_flag(ns, 14) & battery_ok(ns)
+}
+
+// A line of kind 2.
+fn tick_line(s: Supervisor, ns: &[u32]) -> Answered
+    ensures { λ r. ⌜ r ≡ answeredBy s (tickLine (now (ns .entry))) ⌝ }
+{
+    if ns.len() != 18 {
+        return refused(s, Answer::WRONG_COUNT);
+    }
+    if tick_ok(ns) {
+        return s.tick(tick_from(ns));
+    }
+    refused(s, Answer::OUT_OF_RANGE)
+}
+
+// A line of kind 3.
+fn report_line(s: Supervisor, ns: &[u32]) -> Answered
+    ensures { λ r. ⌜ r ≡ answeredBy s (reportLine (now (ns .entry))) ⌝ }
+{
+    if ns.len() != 2 {
+        return refused(s, Answer::WRONG_COUNT);
+    }
+    if is_flag(ns, 1) {
+        return s.report(flag_at(ns, 1));
+    }
+    refused(s, Answer::OUT_OF_RANGE)
+}
+
+// A line of kind 4.
+fn command_line(s: Supervisor, ns: &[u32]) -> Answered
+    ensures { λ r. ⌜ r ≡ answeredBy s (commandLine (now (ns .entry))) ⌝ }
+{
+    if ns.len() != 4 {
+        return refused(s, Answer::WRONG_COUNT);
+    }
+    if is_flag(ns, 2) & is_flag(ns, 3) {
+        let FoundEvent::Known(ev) = Event::from_number(ns[1]) else {
+            return refused(s, Answer::OUT_OF_RANGE);
+        };
+        return s.command(ev, flag_at(ns, 2), flag_at(ns, 3));
+    }
+    refused(s, Answer::OUT_OF_RANGE)
+}
+
+// The numbers as floats, from the start of `floats` on.
+fn read_floats(numbers: &[u32], floats: &mut [f32])
+    requires { ⌜ length (now numbers) ≤ length (now floats) ⌝ }
+    ensures { λ _. ⌜ now (floats .exit) ≡ map (ofBits binary32) (now (numbers .entry)) ++ drop (length (now (numbers .entry))) (now (floats .entry)) ⌝ }
+{
+    let mut i = 0;
+    while i < numbers.len() {
+        floats[i] = from_bits(numbers[i]);
+        i += 1;
+    }
+}
+
+// A line of kind 5.
+fn points_line(s: Supervisor, ns: &[u32]) -> Answered
+    requires { ⌜ length (now ns) ≤ 130 ⌝ }
+    ensures { λ r. ⌜ r ≡ answeredBy s (pointsLine (now (ns .entry))) ⌝ }
+{
+    let n = ns.len();
+    if n < 2 {
+        return refused(s, Answer::WRONG_COUNT);
+    }
+    let count = ns[1] as usize;
+    if n != 2 + 3 * count {
+        return refused(s, Answer::WRONG_COUNT);
+    }
+    let mut floats = [0.0f32; 128];
+    read_floats(&ns[2..], &mut floats);
+    let lent = n - 2;
+    s.set_mission_waypoints(&floats[..lent])
+}
+
+// A line of kind 6.
+fn zones_line(s: Supervisor, ns: &[u32]) -> Answered
+    requires { ⌜ length (now ns) ≤ 130 ⌝ }
+    ensures { λ r. ⌜ r ≡ answeredBy s (zonesLine (now (ns .entry))) ⌝ }
+{
+    let n = ns.len();
+    if n < 2 {
+        return refused(s, Answer::WRONG_COUNT);
+    }
+    let count = ns[1] as usize;
+    if n != 2 + 4 * count {
+        return refused(s, Answer::WRONG_COUNT);
+    }
+    let mut floats = [0.0f32; 128];
+    read_floats(&ns[2..], &mut floats);
+    let lent = n - 2;
+    s.set_keepout_zones(&floats[..lent])
+}
+
+// The numbers of a line, answered by its kind.
+pub(crate) fn numbers_step(s: Supervisor, ns: &[u32]) -> Answered
+    requires { ⌜ (0 < length (now ns)) × (length (now ns) ≤ 130) ⌝ }
+    ensures { λ r. ⌜ r ≡ answeredBy s (requestOf (now (ns .entry))) ⌝ }
+{
+    let kind = ns[0];
+    if kind == 1 {
+        return opening_line(s, ns);
+    }
+    if kind == 2 {
+        return tick_line(s, ns);
+    }
+    if kind == 3 {
+        return report_line(s, ns);
+    }
+    if kind == 4 {
+        return command_line(s, ns);
+    }
+    if kind == 5 {
+        return points_line(s, ns);
+    }
+    if kind == 6 {
+        return zones_line(s, ns);
+    }
+    refused(s, UNKNOWN_KIND)
+}

@@ -1,0 +1,2 @@
+// From a line's numbers to a call.
+pub mod kinds;

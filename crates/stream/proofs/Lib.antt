@@ -1,0 +1,6 @@
+mod Examples
+pub mod LinesAgain
+pub mod LinesCut
+pub mod LinesTurns
+pub mod Replies
+pub mod Sheets
