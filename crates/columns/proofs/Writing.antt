@@ -9,7 +9,8 @@ use mathlib.Core.List.{List, [], _∷_, _++_, append-nil, append-assoc}
 use lib.ListN.{length, getD, set, take, drop, length-append, length-drop, length-replicate, replicate-append-replicate, take-append-drop}
 use lib.Seq.{length-take-le, drop-cons, set-at, take-at, drop-at, take-suc, take-length, drop-append-add, drop-drop}
 use Rattle.columns.specs.Field.{fieldWidth, space, columns, fieldOf, spaces, put}
-use Rattle.columns.specs.Line.{lineOf}
+use Rattle.columns.specs.Line.{lineOf, writtenOver}
+use borrow.Author.Tests.{lt-ltb, le-ltb}
 use Rattle.columns.proofs.FieldAgain.{spaces-one, columns-none, columns-more, length-columns, length-field}
 
 -- ---- put
@@ -248,3 +249,13 @@ wrote-last d ns out at k h w =
     w .is
     ∙ ap (λ (m : ℕ). lineOf (take m ns) ++ drop (fieldWidth * m) d) e
     ∙ ap (λ (l : List ℕ). lineOf l ++ drop (fieldWidth * length ns) d) (take-length ns)
+
+-- without room nothing is written
+pub no-room : (ns out : List ℕ) → length out / fieldWidth < length ns → out ≡ writtenOver ns out
+unfolding writtenOver
+no-room ns out h = simp (lt-ltb (length out) (fieldWidth * length ns) (omega arith))
+
+-- with room the fields are written
+pub room : (ns out : List ℕ) → length ns ≤ length out / fieldWidth → lineOf ns ++ drop (fieldWidth * length ns) out ≡ writtenOver ns out
+unfolding writtenOver
+room ns out h = simp (le-ltb (length out) (fieldWidth * length ns) (omega arith))

@@ -60,6 +60,10 @@ unfoldable pub lineOf : List ℕ → List ℕ
 lineOf [] = []
 lineOf (n ∷ ns) = fieldOf n ++ lineOf ns
 
+-- a buffer after the fields of these numbers are written at its start: as it was where they have no room
+unfoldable pub writtenOver : List ℕ → List ℕ → List ℕ
+writtenOver ns out = cond (ltb (length out) (fieldWidth * length ns)) out (lineOf ns ++ drop (fieldWidth * length ns) out)
+
 -- "0..4294967295", of each number
 abbrev pub InRange : List ℕ → Type 0
 InRange [] = Unit

@@ -6,7 +6,7 @@ ghost use mathlib.Core.List.{_++_};
 ghost use lib.ListN.{length, drop};
 ghost use lib.Seq.{slice};
 ghost use Rattle.columns.specs.Field.{fieldWidth, digits, SkipsTo, readField, fieldOf, spaces, put};
-ghost use Rattle.columns.specs.Line.{lineOf};
+ghost use Rattle.columns.specs.Line.{lineOf, writtenOver};
 
 // The bytes of a field.
 pub const FIELD: usize = 11;
@@ -101,7 +101,7 @@ fn blank(out: &mut [u8], at: usize)
 }
 
 // `n` in the field at `at`.
-pub(crate) fn write_field(out: &mut [u8], at: usize, n: u32)
+fn write_field(out: &mut [u8], at: usize, n: u32)
     requires { ⌜ at + fieldWidth ≤ length (now out) ⌝ }
     ensures { λ _. ⌜ now (out .exit) ≡ put (now (out .entry)) at (fieldOf n) ⌝ }
 {
@@ -117,7 +117,7 @@ pub(crate) fn write_field(out: &mut [u8], at: usize, n: u32)
 }
 
 // A field for each number, from the start on.
-pub(crate) fn write_numbers(out: &mut [u8], numbers: &[u32])
+fn write_fields(out: &mut [u8], numbers: &[u32])
     requires { ⌜ fieldWidth * length (now numbers) ≤ length (now out) ⌝ }
     ensures { λ _. ⌜ now (out .exit) ≡ lineOf (now (numbers .entry)) ++ drop (fieldWidth * length (now (numbers .entry))) (now (out .entry)) ⌝ }
 {
@@ -128,4 +128,14 @@ pub(crate) fn write_numbers(out: &mut [u8], numbers: &[u32])
         at += FIELD;
         k += 1;
     }
+}
+
+// A field for each number, from the start on, where the buffer has room for all of them; else nothing.
+pub fn write_numbers(out: &mut [u8], numbers: &[u32])
+    ensures { λ _. ⌜ now (out .exit) ≡ writtenOver (now (numbers .entry)) (now (out .entry)) ⌝ }
+{
+    if out.len() / FIELD < numbers.len() {
+        return;
+    }
+    write_fields(out, numbers);
 }

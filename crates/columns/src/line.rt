@@ -3,7 +3,7 @@
 ghost use Prim.Native.Nat.{_≤_};
 ghost use mathlib.Core.Path.{_≡_};
 ghost use lib.ListN.{length};
-ghost use Rattle.columns.specs.Line.{lineFields, readWithin, readLine, readingOf, Counted};
+ghost use Rattle.columns.specs.Line.{readWithin, readingOf, Counted};
 use crate::field::FIELD;
 use crate::field::FieldRead;
 use crate::field::read_field;
@@ -24,7 +24,7 @@ pub enum LineRead {
 }
 
 // The numbers of a line that may have `limit` fields.
-pub(crate) fn read_within(line: &[u8], limit: usize, numbers: &mut [u32]) -> LineRead
+fn read_within(line: &[u8], limit: usize, numbers: &mut [u32]) -> LineRead
     requires { ⌜ limit ≤ length (now numbers) ⌝ }
     ensures { λ r. ⌜ readingOf r (now (numbers .exit)) ≡ readWithin limit (now (line .entry)) ⌝ }
     ensures { λ r. ⌜ Counted r (now (numbers .exit)) ⌝ }
@@ -53,11 +53,11 @@ pub(crate) fn read_within(line: &[u8], limit: usize, numbers: &mut [u32]) -> Lin
     LineRead::Numbers(k)
 }
 
-// The numbers of a line of document 01's kinds.
-pub(crate) fn read_line(line: &[u8], numbers: &mut [u32]) -> LineRead
-    requires { ⌜ lineFields ≤ length (now numbers) ⌝ }
-    ensures { λ r. ⌜ readingOf r (now (numbers .exit)) ≡ readLine (now (line .entry)) ⌝ }
+// The numbers of a line that may have as many fields as the array has places.
+pub fn read_line(line: &[u8], numbers: &mut [u32]) -> LineRead
+    ensures { λ r. ⌜ readingOf r (now (numbers .exit)) ≡ readWithin (length (now (numbers .entry))) (now (line .entry)) ⌝ }
     ensures { λ r. ⌜ Counted r (now (numbers .exit)) ⌝ }
 {
-    read_within(line, LINE_FIELDS, numbers)
+    let limit = numbers.len();
+    read_within(line, limit, numbers)
 }
