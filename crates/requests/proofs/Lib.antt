@@ -1,1 +1,2 @@
 mod Floats
+pub mod Asking

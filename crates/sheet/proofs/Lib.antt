@@ -1,5 +1,5 @@
 pub mod Answer
-pub mod Asking
+pub mod Buffer
 pub mod CallSeen
 pub mod PlaceHolds
 pub mod DemandThree

@@ -7,25 +7,13 @@ use lib.ListN.{length, drop}
 use Rattle.falcon_core.specs.declared.state.Supervisor.{Supervisor}
 use Rattle.falcon_core.specs.declared.calls.Answered.{Answered}
 use Rattle.falcon_core.specs.Calls.{numbersOf}
-use Rattle.columns.specs.Line.{answerWidth, Reading, read, broken, readLine, lineOf}
-use Rattle.requests.specs.Kinds.{Asked, refuses, requestOf, answeredBy}
+use Rattle.columns.specs.Line.{answerWidth, lineOf}
+use Rattle.requests.specs.Kinds.{Asked, refuses, answeredBy}
+use Rattle.requests.specs.Line.{askedLine}
 
 -- 9: "answer buffer under 110 bytes; nothing written"
 abbrev pub shortBuffer : ℕ
 shortBuffer = 9
-
--- 2: "length 0, no multiple of 11, over 1,430, or a bad field"
-abbrev pub notALine : ℕ
-notALine = 2
-
--- what a line asks once it is read
-abbrev pub askedBy : Reading → Asked
-askedBy (read ns) = requestOf ns
-askedBy broken = refuses notALine
-
--- what a line asks: 2, 3, 4 and 5 in this order
-unfoldable pub askedLine : List ℕ → Asked
-askedLine line = askedBy (readLine line)
 
 -- what a call by line asks, with its answer buffer: 9 comes first
 unfoldable pub askedWith : List ℕ → List ℕ → Asked

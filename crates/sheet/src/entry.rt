@@ -1,24 +1,13 @@
 // A call by line, with the buffer for its answer.
 ghost use mathlib.Core.Path.{_≡_};
-ghost use mathlib.Core.List.{_++_};
-ghost use Prim.Native.Nat.{_≤_};
-ghost use lib.ListN.{length, drop};
 ghost use Rattle.falcon_core.specs.Calls.{numbersOf};
-ghost use Rattle.columns.specs.Line.{answerWidth, lineOf};
-ghost use Rattle.requests.specs.Kinds.{answeredBy};
-ghost use Rattle.sheet.specs.Entry.{askedLine, lineStep, bufferAfter};
+ghost use Rattle.columns.specs.Line.{writtenOver};
+ghost use Rattle.sheet.specs.Entry.{lineStep, bufferAfter};
 use columns::field::write_numbers;
 use columns::line::ANSWER;
-use columns::line::LineRead;
-use columns::line::read_line;
 use falcon_core::calls::Answer;
-use falcon_core::calls::Answered;
-use falcon_core::calls::refused;
 use falcon_core::state::Supervisor;
-use requests::kinds::numbers_step;
-
-// 2: not a sheet line.
-pub const NOT_A_LINE: u32 = 2;
+use requests::line::step;
 
 // 9: the answer buffer is too short.
 pub const SHORT_BUFFER: u32 = 9;
@@ -29,21 +18,9 @@ pub struct Outcome {
     pub refusal: u32,
 }
 
-// What a line is answered with.
-fn step(s: Supervisor, line: &[u8]) -> Answered
-    ensures { λ r. ⌜ r ≡ answeredBy s (askedLine (now (line .entry))) ⌝ }
-{
-    let mut numbers = [0u32; 130];
-    let LineRead::Numbers(count) = read_line(line, &mut numbers) else {
-        return refused(s, NOT_A_LINE);
-    };
-    numbers_step(s, &numbers[..count])
-}
-
-// The answer's fields at the start of the buffer.
+// The answer's fields at the start of the buffer, where it has room for them.
 fn write_answer(out: &mut [u8], a: Answer)
-    requires { ⌜ answerWidth ≤ length (now out) ⌝ }
-    ensures { λ _. ⌜ now (out .exit) ≡ lineOf (numbersOf a) ++ drop answerWidth (now (out .entry)) ⌝ }
+    ensures { λ _. ⌜ now (out .exit) ≡ writtenOver (numbersOf a) (now (out .entry)) ⌝ }
 {
     let numbers = a.numbers();
     write_numbers(out, &numbers);

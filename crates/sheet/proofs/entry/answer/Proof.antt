@@ -1,19 +1,13 @@
 use mathlib.Core.Path.{refl, ap, _∙_}
-use mathlib.Core.List.{_++_}
-use lib.ListN.{drop}
 use Rattle.falcon_core.specs.declared.calls.Answered.{Answered}
 use Rattle.falcon_core.specs.Calls.{numbersOf}
-use Rattle.columns.specs.Line.{answerWidth, lineOf}
-use Rattle.sheet.proofs.Asking.{short-state, short-refusal, short-buffer, full-step, full-buffer}
+use Rattle.columns.specs.Line.{writtenOver}
+use Rattle.sheet.proofs.Buffer.{short-state, short-refusal, short-buffer, full-step, full-buffer}
 use Rattle.sheet.specs.Entry.{lineStep, bufferAfter}
 use borrow.Author.Tests.{lt-ltb, le-ltb, le-leb, lt-leb, eq-eqb, ne-eqb}
 use borrow.Author.Needs.{needs}
 use Rattle.sheet.proofs.entry.answer.Statement.{statement}
 use Rattle.sheet.proofs.entry.answer.Tie as tie
-use Rattle.sheet.proofs.entry.answer.Reads as reads
-use Rattle.sheet.proofs.entry.answer.Lts as lts
-use Rattle.sheet.proofs.entry.step.Reads as step-reads
-use Rattle.sheet.proofs.entry.write_answer.Reads as write-answer-reads
 
 returns : tie.Need-returns
 returns c =
@@ -36,7 +30,7 @@ returns-2 c =
         ap (λ (x : Answered). x .answer .refusal) e,
         (
           c .before .before .write-answer .ensures
-              ∙ ap (λ (x : Answered). lineOf (numbersOf (x .answer)) ++ drop answerWidth (c .before .before .before .before .before .before .before .before .before .before .args .out .now)) (c .before .before .before .before .before .before .step .ensures)
+              ∙ ap (λ (x : Answered). writtenOver (numbersOf (x .answer)) (c .before .before .before .before .before .before .before .before .before .before .args .out .now)) (c .before .before .before .before .before .before .step .ensures)
               ∙ full-buffer (c .before .before .before .before .before .before .before .before .before .before .args .s) (c .before .before .before .before .before .before .before .before .before .before .args .line .now) (c .before .before .before .before .before .before .before .before .before .before .args .out .now) (c .before .before .before .before .before .before .before .if1 .left),
           refl,
         ),

@@ -1,0 +1,18 @@
+-- What a line asks, or the refusal that fits it whatever the state.
+use Prim.Native.Nat.{ℕ}
+use mathlib.Core.List.{List}
+use Rattle.columns.specs.Line.{Reading, read, broken, readLine}
+use Rattle.requests.specs.Kinds.{Asked, refuses, requestOf}
+
+-- 2: "length 0, no multiple of 11, over 1,430, or a bad field"
+abbrev pub notALine : ℕ
+notALine = 2
+
+-- what a line asks once it is read
+abbrev pub askedBy : Reading → Asked
+askedBy (read ns) = requestOf ns
+askedBy broken = refuses notALine
+
+-- what a line asks: 2, 3, 4 and 5 in this order
+unfoldable pub askedLine : List ℕ → Asked
+askedLine line = askedBy (readLine line)
