@@ -36,6 +36,10 @@ module _ (s : Supervisor) (line out : List ℕ) (h : answerWidth ≤ length out)
   unfolding lineStep askedWith
   full-step = simp (le-ltb (length out) answerWidth h)
 
-  pub full-buffer : writtenOver (numbersOf (answeredBy s (askedLine line) .answer)) out ≡ bufferAfter s line out
+  pub full-buffer : lineOf (numbersOf (answeredBy s (askedLine line) .answer)) ++ drop answerWidth out ≡ bufferAfter s line out
+  unfolding bufferAfter replyOf
+  full-buffer = simp (le-ltb (length out) answerWidth h, sym full-step)
+
+  pub full-written : writtenOver (numbersOf (answeredBy s (askedLine line) .answer)) out ≡ bufferAfter s line out
   unfolding bufferAfter replyOf writtenOver
-  full-buffer = simp (numbers-count, le-ltb (length out) answerWidth h, sym full-step)
+  full-written = simp (numbers-count, le-ltb (length out) answerWidth h, sym full-step)

@@ -2,7 +2,7 @@ use mathlib.Core.Path.{refl, ap, _∙_}
 use Rattle.falcon_core.specs.declared.calls.Answered.{Answered}
 use Rattle.falcon_core.specs.Calls.{numbersOf}
 use Rattle.columns.specs.Line.{writtenOver}
-use Rattle.sheet.proofs.Buffer.{short-state, short-refusal, short-buffer, full-step, full-buffer}
+use Rattle.sheet.proofs.Buffer.{short-state, short-refusal, short-buffer, full-step, full-written}
 use Rattle.sheet.specs.Entry.{lineStep, bufferAfter}
 use borrow.Author.Tests.{lt-ltb, le-ltb, le-leb, lt-leb, eq-eqb, ne-eqb}
 use borrow.Author.Needs.{needs}
@@ -31,7 +31,7 @@ returns-2 c =
         (
           c .before .before .write-answer .ensures
               ∙ ap (λ (x : Answered). writtenOver (numbersOf (x .answer)) (c .before .before .before .before .before .before .before .before .before .before .args .out .now)) (c .before .before .before .before .before .before .step .ensures)
-              ∙ full-buffer (c .before .before .before .before .before .before .before .before .before .before .args .s) (c .before .before .before .before .before .before .before .before .before .before .args .line .now) (c .before .before .before .before .before .before .before .before .before .before .args .out .now) (c .before .before .before .before .before .before .before .if1 .left),
+              ∙ full-written (c .before .before .before .before .before .before .before .before .before .before .args .s) (c .before .before .before .before .before .before .before .before .before .before .args .line .now) (c .before .before .before .before .before .before .before .before .before .before .args .out .now) (c .before .before .before .before .before .before .before .if1 .left),
           refl,
         ),
       ),
