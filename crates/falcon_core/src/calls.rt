@@ -189,9 +189,8 @@ impl Supervisor {
         if (o.required >= CheckTable::MASK_LIMIT) | (o.passed >= CheckTable::MASK_LIMIT) {
             return refused(self, Answer::OUT_OF_RANGE);
         }
-        let flight = FlightSupervisor::opened(o);
         let next = Supervisor {
-            flight,
+            flight: FlightSupervisor::opened(o),
             opened: true,
             report_due: false,
         };
@@ -208,8 +207,7 @@ impl Supervisor {
         if self.report_due {
             return refused(self, Answer::REPORT_DUE);
         }
-        let flight = self.flight;
-        let ticked = tick(flight, t);
+        let ticked = tick(self.flight, t);
         let flight = ticked.flight;
         let answer = ticked.answer;
         let next = Supervisor {
@@ -230,10 +228,8 @@ impl Supervisor {
         if !self.report_due {
             return refused(self, Answer::NO_REPORT_DUE);
         }
-        let flight = self.flight;
-        let after = reported(flight, failed);
         let next = Supervisor {
-            flight: after,
+            flight: reported(self.flight, failed),
             opened: self.opened,
             report_due: false,
         };
@@ -250,10 +246,11 @@ impl Supervisor {
         if self.report_due {
             return refused(self, Answer::REPORT_DUE);
         }
-        let flight = self.flight;
-        let after = commanded(flight, ev, level, throttle_low);
-        let mut next = self;
-        next.flight = after;
+        let next = Supervisor {
+            flight: commanded(self.flight, ev, level, throttle_low),
+            opened: self.opened,
+            report_due: self.report_due,
+        };
         accepted(next, Output::Nothing)
     }
 

@@ -2,9 +2,9 @@
 ghost use mathlib.Core.Path.{_≡_};
 ghost use Rattle.requests.specs.Kinds.{answeredBy};
 ghost use Rattle.requests.specs.Line.{askedLine};
+use crate::kinds::numbers_step;
 use columns::line::LineRead;
 use columns::line::read_line;
-use crate::kinds::numbers_step;
 use falcon_core::calls::Answered;
 use falcon_core::calls::refused;
 use falcon_core::state::Supervisor;

@@ -25,7 +25,7 @@ accepted-requires c κs = search needs
 
 returns-3 : tie.Need-returns-3
 unfolding stepOf refusalOf afterOf outputOf
-returns-3 c = simp (c .accepted .ensures, c .before .reported .ensures, c .before .before .before .if2 .left, c .before .before .before .before .before .if1 .left)
+returns-3 c = simp (c .accepted .ensures, c .before .reported .ensures, c .before .before .if2 .left, c .before .before .before .before .if1 .left)
 
 pub report-spec : {M : Type 1} → statement M
 report-spec =

@@ -31,7 +31,7 @@ accepted-requires c κs = search needs
 returns-3 : tie.Need-returns-3
 returns-3 c =
     c .accepted .ensures
-    ∙ tick-accepted _ _ _ _ (c .before .before .before .tick .ensures) (c .before .due-after .ensures) (c .before .before .before .before .before .before .if1 .left) (c .before .before .before .before .before .if2 .left)
+    ∙ tick-accepted _ _ _ _ (c .before .before .before .tick .ensures) (c .before .due-after .ensures) (c .before .before .before .before .before .if1 .left) (c .before .before .before .before .if2 .left)
 
 pub tick-spec : {M : Type 1} → statement M
 tick-spec =
