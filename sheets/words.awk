@@ -68,7 +68,7 @@ function answered(a, tick,    text) {
     text = mode_name[a[2] + 1]
     if (a[1]) return text "; refused, " a[1] ": " refusal_text[a[1]]
     if (tick) text = text (a[4] ? ", motors off" : ": fly to " place(a, 6)) also(a[3], "landing") also(a[5], "rearm")
-    if (a[9]) text = text "; checks outstanding " a[9] ", first " check_name[a[10] + 1]
+    if (a[9]) text = text "; outstanding " a[9] ", first " check_name[a[10] + 1]
     return text
 }
 
