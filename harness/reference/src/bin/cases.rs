@@ -16,7 +16,7 @@ fn main() -> ExitCode {
     };
     match said {
         Ok(n) => {
-            println!("{n} cases, each as expected");
+            println!("{n} cases of {}, each as expected", args[1]);
             ExitCode::SUCCESS
         }
         Err(e) => {
