@@ -1,4 +1,4 @@
-//! Document 01's worked example, and the cases of harness/cases/cases.txt: readable calls with what is expected of each answer.
+//! Document 01's worked example, and cases: readable calls with what is expected of each answer (harness/cases/cases.txt says how they are written).
 
 use crate::sheet::{answer_sheet, write_fields, Shuttle, ANSWER_FIELDS};
 
@@ -46,7 +46,7 @@ pub fn cases_of(text: &str) -> Result<Vec<Case>, String> {
         if line.is_empty() || line.starts_with('#') {
             continue;
         }
-        let in_line = |e: String| format!("cases.txt, line {}: {e}", at + 1);
+        let in_line = |e: String| format!("line {}: {e}", at + 1);
         if let Some(name) = line.strip_prefix("case ") {
             shuttle = Shuttle::new();
             let (sheet, answers) = (Vec::new(), Vec::new());
