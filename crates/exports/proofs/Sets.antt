@@ -1,5 +1,5 @@
 -- Runs of numbers stored one behind the other.
-use mathlib.Core.Path.{_≡_, refl, sym, ap, _∙_}
+use mathlib.Core.Path.{_≡_, sym, ap, _∙_}
 use Prim.Native.Nat.{ℕ, suc, _+_, _≤_, _<_}
 use native.Mathlib.Nat.{add-zero, add-suc, suc-add, le-of-lt}
 use native.Mathlib.Numerals.{add-one}

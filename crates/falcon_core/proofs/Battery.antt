@@ -1,10 +1,8 @@
 -- The battery of every state that calls lead to: its configuration is the opening's, and it is within document 01's bounds.
-use mathlib.Core.Path.{_≡_, refl, _∙_, ap}
+use mathlib.Core.Path.{_≡_, _∙_, ap}
 use mathlib.Core.List.{List}
 use lib.Ieee.{Float}
-use Rattle.relay_batt.specs.declared.config.BattConfig.{BattConfig}
 use Rattle.relay_batt.specs.declared.battery.Battery.{Battery}
-use Rattle.relay_batt.specs.Bounds.{Within}
 use Rattle.relay_batt.specs.Config.{capacityOf, capacityMah, forOpeningVoltsOf}
 use Rattle.relay_batt.specs.Sound.{Sound as SoundBattery, InBounds}
 use Rattle.relay_batt.proofs.Sound.{update-cfg, opened-cfg, capacity-opening}

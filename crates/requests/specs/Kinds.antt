@@ -1,6 +1,6 @@
 -- The kinds of lines: what the numbers of a line ask, or the refusal 3, 4 or 5 that fits them whatever the state.
 use Prim.Native.Nat.{ℕ, _+_, _*_}
-use mathlib.Core.Bool.{Bool, cond, not, _&&_, _||_}
+use mathlib.Core.Bool.{Bool, cond, _&&_, _||_}
 use mathlib.Core.List.{List, map}
 use lib.Dec.{eqb, leb, ltb}
 use lib.ListN.{length, getD, drop}

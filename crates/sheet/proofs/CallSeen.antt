@@ -2,8 +2,8 @@
 use Prim.Native.Nat.{ℕ, zero, suc}
 use mathlib.Core.Bool.{Bool, true, false, cond}
 use mathlib.Core.Option.{Option, none, some}
-use mathlib.Core.Path.{_≡_, refl, sym, subst}
-use lib.Dec.{eqb, eqb·suc-zero}
+use mathlib.Core.Path.{_≡_, refl}
+use lib.Dec.{eqb·suc-zero}
 use Rattle.falcon_core.specs.declared.state.Supervisor.{Supervisor}
 use Rattle.falcon_core.specs.declared.calls.Answered.{Answered}
 use Rattle.falcon_core.specs.Calls.{Request, refusalOf, afterOf, outputOf, answerOf, refusedOf, acceptedOf, stepOf}

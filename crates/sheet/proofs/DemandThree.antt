@@ -3,19 +3,18 @@ use Prim.Native.Nat.{ℕ, zero, suc, _+_, _≤_}
 use native.Mathlib.Nat.{le-refl, zero-add}
 use native.Mathlib.Omega.{arith}
 use mathlib.Core.Bool.{Bool, true, false, cond, _&&_, _||_}
-use mathlib.Core.List.{List, [], _∷_, _++_}
+use mathlib.Core.List.{List, [], _∷_}
 use mathlib.Core.Logic.{_⊎_, inl, inr, ⊎-elim, _↔_, _≢_}
 use mathlib.Core.Option.{Option, none, some}
-use mathlib.Core.Path.{_≡_, refl, sym, ap, _∙_, subst}
+use mathlib.Core.Path.{_≡_, refl, sym, _∙_, subst}
 use lib.Dec.{T, leb, leb→le}
-use lib.Ieee.Fits.{and-l, and-r, and-i}
+use lib.Ieee.Fits.{and-l, and-r}
 use Rattle.relay_fsm.specs.declared.Mode.{Mode}
 use Rattle.relay_fsm.specs.declared.Mode.the-variants.{Disarmed, Terminated}
 use Rattle.relay_fsm.specs.Mode.{isMode, isAirborneOf, rankOf}
 use Rattle.relay_fsm.proofs.Finite.{isMode→eq, eq→isMode}
 use denote.Floats.{is-true}
 use Rattle.relay_batt.specs.declared.battery.Battery.{Battery}
-use Rattle.relay_batt.specs.Battery.{updateOf}
 use Rattle.relay_batt.proofs.Stays.{critical-stays, critical-shown}
 use Rattle.falcon_guidance.specs.declared.state.Tick.{Tick}
 use Rattle.falcon_core.specs.declared.state.Supervisor.{Supervisor}
@@ -24,12 +23,12 @@ use Rattle.falcon_failsafe.specs.Failsafe.{tiltedOf, runawayEnough}
 use Rattle.falcon_flight.specs.Milestone.{nearGroundOf}
 use Rattle.falcon_flight.specs.Tick.{tickOf}
 use Rattle.falcon_core.specs.Land.{landedOf, throughLandOf}
-use Rattle.falcon_core.specs.Calls.{Request, opens, ticks, reports, commands, points, zones, afterOf, outputOf, refusedOf, acceptedOf}
+use Rattle.falcon_core.specs.Calls.{Request, opens, ticks, reports, commands, points, zones, afterOf, outputOf}
 use Rattle.falcon_core.proofs.Rank.{tick-rank, report-rank}
 use Rattle.falcon_core.proofs.Phase.{phaseOf, airborne-phase, tick-phase, report-keeps-phase}
 use Rattle.falcon_core.proofs.Runaway.{tick-ends}
-use Rattle.sheet.specs.Lists.{Call, Began, Place, callStep, taken, nextMode, ticked, nextBattery, nextBegan, nextPlace, placeFrom, placeAt, start, latchOf, calm, calmFrom, tickCount, ticksFrom}
-use Rattle.sheet.specs.Demand3.{landingTicks, tumblingTicks, underGround, tumbling, tumblingFor, TwoTicks, Landed, RankKept, FiftyTicks, Holds, Demand3}
+use Rattle.sheet.specs.Lists.{Call, Began, Place, taken, nextMode, ticked, nextBattery, nextBegan, nextPlace, placeFrom, placeAt, start, latchOf, calm, calmFrom, tickCount, ticksFrom}
+use Rattle.sheet.specs.Demand3.{landingTicks, tumblingTicks, underGround, tumbling, tumblingFor, TwoTicks, RankKept, FiftyTicks, Demand3}
 use Rattle.sheet.proofs.CallSeen.{Seen, refused, took, seen}
 use Rattle.sheet.proofs.PlaceHolds.{run, Inv, Holding, refused-mode, accepted-mode, one-more, run-now, enough-is, tick-terminates, no-air, next-holding, place-holding, start-holding}
 

@@ -9,8 +9,6 @@ use Rattle.relay_fsm.specs.declared.Event.the-variants.{Arm, RequestTakeoff}
 use Rattle.relay_fsm.specs.Mode.{modeNumber}
 use Rattle.relay_batt.specs.declared.battery.Reading.{Reading}
 use Rattle.relay_batt.specs.declared.battery.Reading.the-variants.{Nothing, Volts}
-use Rattle.falcon_guidance.specs.declared.state.Tick.{Tick}
-use Rattle.falcon_failsafe.specs.declared.state.Opening.{Opening}
 use Rattle.falcon_guidance.specs.State.{pointOf, origin, zerof}
 use Rattle.falcon_core.specs.Calls.{opens, ticks, reports, commands, points}
 use lib.Ieee.{add, sub, mul, div, neg, lt, eq, le, ne, ofInt, round, units, isNan, size, toBits}

@@ -7,14 +7,13 @@ use mathlib.Core.List.{List, [], _∷_}
 use mathlib.Core.Logic.{_⊎_, inl, inr, ⊎-elim}
 use mathlib.Core.Option.{Option, none, some}
 use mathlib.Core.Path.{_≡_, refl, sym, ap, _∙_, subst}
-use lib.Dec.{T, eqb, leb, eqb·suc-zero}
+use lib.Dec.{T, leb, eqb·suc-zero}
 use borrow.Author.Tests.{le-leb}
 use Rattle.relay_math.specs.Small.{saturatingAddOf}
 use Rattle.relay_fsm.specs.declared.Mode.{Mode}
 use Rattle.relay_fsm.specs.declared.Mode.the-variants.{Terminated}
-use Rattle.relay_fsm.specs.declared.Event.{Event}
 use Rattle.relay_fsm.specs.Mode.{isMode, isAirborneOf}
-use Rattle.relay_fsm.proofs.Finite.{isMode→eq, eq→isMode}
+use Rattle.relay_fsm.proofs.Finite.{isMode→eq}
 use Rattle.relay_batt.specs.declared.battery.Battery.{Battery}
 use Rattle.relay_batt.specs.declared.estimator.BattState.{BattState}
 use Rattle.relay_batt.specs.declared.config.BattConfig.{BattConfig}
@@ -31,13 +30,13 @@ use Rattle.falcon_core.specs.declared.calls.Output.{Output}
 use Rattle.falcon_guidance.specs.State.{zerof}
 use Rattle.falcon_failsafe.specs.State.{openedOf}
 use Rattle.falcon_core.specs.State.{unopened}
-use Rattle.falcon_failsafe.specs.Failsafe.{tiltedOf, runawayCountOf, runawayEnough, reportedOf}
+use Rattle.falcon_failsafe.specs.Failsafe.{tiltedOf, runawayEnough, reportedOf}
 use Rattle.falcon_flight.specs.Tick.{tickOf}
-use Rattle.falcon_core.specs.Calls.{Request, opens, ticks, reports, commands, points, zones, dueAfter, afterOf, outputOf, answerOf, refusedOf, acceptedOf, commandedBy}
+use Rattle.falcon_core.specs.Calls.{Request, opens, ticks, reports, commands, points, zones, dueAfter, afterOf, outputOf, answerOf, refusedOf, acceptedOf}
 use Rattle.falcon_core.proofs.Stages.{tick-battery, report-battery, report-counts, command-battery, command-counts}
 use Rattle.falcon_core.proofs.Runaway.{tick-count, tick-ends, report-ends, command-terminated}
-use Rattle.sheet.specs.Lists.{Call, Began, Place, accepted, nextMode, ticked, nextBattery, nextBegan, nextPlace, placeFrom, start, callStep, taken}
-use Rattle.sheet.specs.Demand3.{tumblingTicks, tumblingTilt, tumbling}
+use Rattle.sheet.specs.Lists.{Call, Began, Place, nextMode, ticked, nextBattery, nextBegan, nextPlace, placeFrom, start}
+use Rattle.sheet.specs.Demand3.{tumblingTicks, tumbling}
 use Rattle.sheet.proofs.CallSeen.{Seen, refused, took, seen}
 
 -- how many of the latest ticks in a row began airborne and tilted

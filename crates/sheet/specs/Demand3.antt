@@ -3,17 +3,16 @@ use Prim.Native.Nat.{ℕ, zero, suc, _≤_}
 use mathlib.Core.Bool.{Bool, true, false, _&&_}
 use mathlib.Core.List.{List, [], _∷_, _++_}
 use mathlib.Core.Logic.{_⊎_, _↔_, _≢_}
-use mathlib.Core.Option.{Option, none, some}
+use mathlib.Core.Option.{some}
 use mathlib.Core.Path.{_≡_}
 use lib.Dec.{T}
 use lib.Ieee.{Float, binary32, ofBits, lt}
-use Rattle.relay_fsm.specs.declared.Mode.{Mode}
 use Rattle.relay_fsm.specs.declared.Mode.the-variants.{Disarmed, Terminated}
 use Rattle.relay_fsm.specs.Mode.{isAirborneOf, rankOf}
 use Rattle.falcon_guidance.specs.declared.state.Tick.{Tick}
 use Rattle.falcon_flight.specs.Milestone.{heightOf}
 use Rattle.falcon_core.specs.Land.{landedOf, throughLandOf}
-use Rattle.falcon_core.specs.Calls.{Request, ticks, reports}
+use Rattle.falcon_core.specs.Calls.{ticks}
 use Rattle.sheet.specs.Lists.{Call, Place, Began, taken, placeFrom, placeAt, nextPlace, latchOf, calm, calmFrom, ticksFrom}
 
 -- "from the second accepted tick after it on"

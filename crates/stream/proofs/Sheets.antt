@@ -1,15 +1,15 @@
 -- A whole sheet answered into one buffer: its whole lines, and then its last line. Assumes nothing.
-use Prim.Native.Nat.{ℕ, zero, suc, _+_, _-_, _*_, _/_, _≤_, _<_}
+use Prim.Native.Nat.{ℕ, suc, _+_, _-_, _*_, _/_, _≤_, _<_}
 use native.Mathlib.Nat.{zero-add}
 use native.Mathlib.Omega.{arith}
-use mathlib.Core.Path.{_≡_, refl, sym, ap, _∙_}
+use mathlib.Core.Path.{_≡_, sym, ap, _∙_}
 use mathlib.Core.List.{List, [], _∷_, _++_}
 use lib.ListN.{length, take, drop, length-take, length-append, length-drop}
 use lib.Seq.{take-all, take-append-le}
 use Rattle.falcon_core.specs.declared.state.Supervisor.{Supervisor}
 use Rattle.stream.specs.declared.many.Progress.{Progress}
 use Rattle.columns.specs.Field.{put}
-use Rattle.stream.specs.Lines.{whole, joined, rest, lastLine, linesOf, statesAfter}
+use Rattle.stream.specs.Lines.{whole, rest, lastLine, linesOf, statesAfter}
 use Rattle.stream.specs.Many.{afterLine, replyLine, replyWidth, fitting, replies, progressOf, answersOver}
 use Rattle.stream.proofs.LinesCut.{answers-append}
 use Rattle.stream.proofs.LinesTurns.{placed-buffer}

@@ -3,70 +3,52 @@ use Rattle.falcon_guidance.specs.Zones.{zoneAtOf}
 use borrow.Author.Needs.{needs}
 use Rattle.falcon_guidance.proofs.zones.zone_at.Statement.{statement}
 use Rattle.falcon_guidance.proofs.zones.zone_at.Tie as tie
-use Rattle.falcon_guidance.proofs.zones.zone_at.Reads as reads
-use Rattle.falcon_guidance.proofs.zones.zone_at.Lts as lts
 
--- src/zones.rt:181:17
 mul-t4 : tie.Need-mul-t4
 mul-t4 c = search needs
 
--- src/zones.rt:181:12
 mul-t5 : tie.Need-mul-t5
 mul-t5 c = search needs
 
--- src/zones.rt:181:12
 shared-slice-read-t7 : tie.Need-shared-slice-read-t7
 shared-slice-read-t7 c = search needs
 
--- src/zones.rt:182:17
 mul-t8 : tie.Need-mul-t8
 mul-t8 c = search needs
 
--- src/zones.rt:182:17
 add-t9 : tie.Need-add-t9
 add-t9 c = search needs
 
--- src/zones.rt:182:12
 mul-t10 : tie.Need-mul-t10
 mul-t10 c = search needs
 
--- src/zones.rt:182:12
 shared-slice-read-t12 : tie.Need-shared-slice-read-t12
 shared-slice-read-t12 c = search needs
 
--- src/zones.rt:183:17
 mul-t13 : tie.Need-mul-t13
 mul-t13 c = search needs
 
--- src/zones.rt:183:17
 add-t14 : tie.Need-add-t14
 add-t14 c = search needs
 
--- src/zones.rt:183:12
 mul-t15 : tie.Need-mul-t15
 mul-t15 c = search needs
 
--- src/zones.rt:183:12
 shared-slice-read-t17 : tie.Need-shared-slice-read-t17
 shared-slice-read-t17 c = search needs
 
--- src/zones.rt:187:22
 mul-t4-2 : tie.Need-mul-t4-2
 mul-t4-2 c = search needs
 
--- src/zones.rt:187:22
 add-t5 : tie.Need-add-t5
 add-t5 c = search needs
 
--- src/zones.rt:187:17
 mul-t15-2 : tie.Need-mul-t15-2
 mul-t15-2 c = search needs
 
--- src/zones.rt:187:17
 shared-slice-read-t17-2 : tie.Need-shared-slice-read-t17-2
 shared-slice-read-t17-2 c = search needs
 
--- src/zones.rt:176:1
 returns : tie.Need-returns
 unfolding zoneAtOf
 returns c = refl

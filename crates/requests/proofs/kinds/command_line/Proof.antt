@@ -1,83 +1,59 @@
 use mathlib.Core.Path.{sym, _∙_}
 use lib.ListN.{length}
 use Rattle.requests.specs.Kinds.{commandLine}
-use borrow.Author.Tests.{lt-ltb, le-ltb, le-leb, lt-leb, eq-eqb, ne-eqb}
+use borrow.Author.Tests.{eq-eqb, ne-eqb}
 use borrow.Author.Needs.{needs}
 use Rattle.requests.proofs.kinds.command_line.Statement.{statement}
 use Rattle.requests.proofs.kinds.command_line.Tie as tie
-use Rattle.requests.proofs.kinds.command_line.Reads as reads
-use Rattle.requests.proofs.kinds.command_line.Lts as lts
-use Rattle.falcon_core.proofs.calls.refused.Reads as refused-reads
-use Rattle.falcon_core.proofs.state.Supervisor.command.Reads as command-reads
-use Rattle.relay_fsm.proofs.Event.from_number.Reads as from-number-reads
-use Rattle.requests.proofs.kinds.flag_at.Reads as flag-at-reads
-use Rattle.requests.proofs.kinds.is_flag.Reads as is-flag-reads
 
--- src/kinds.rt:174:9
 refused-requires : tie.Need-refused-requires
 refused-requires c κs = search needs
 
--- src/kinds.rt:174:9
 returns : tie.Need-returns
 unfolding commandLine
 returns c = simp (c .refused .ensures, ne-eqb (length (c .before .before .before .args .ns .now)) 4 (c .before .if1 .taken))
 
--- src/kinds.rt:176:8
 is-flag-requires : tie.Need-is-flag-requires
 is-flag-requires c κs = search needs
 
--- src/kinds.rt:176:25
 is-flag-requires-2 : tie.Need-is-flag-requires-2
 is-flag-requires-2 c κs = search needs
 
--- src/kinds.rt:177:56
 shared-slice-read-from-number : tie.Need-shared-slice-read-from-number
 shared-slice-read-from-number c = search needs
 
--- src/kinds.rt:177:37
 from-number-requires : tie.Need-from-number-requires
 from-number-requires c κs = search needs
 
--- src/kinds.rt:177:31
 enum-known-ev : tie.Need-enum-known-ev
 enum-known-ev c = search needs
 
--- src/kinds.rt:178:13
 enum-told : tie.Need-enum-told
 enum-told c = search needs
 
--- src/kinds.rt:178:13
 refused-requires-2 : tie.Need-refused-requires-2
 refused-requires-2 c κs = search needs
 
--- src/kinds.rt:178:13
 returns-2 : tie.Need-returns-2
 unfolding commandLine
 returns-2 c = simp (c .refused2 .ensures, sym (c .before .before .before .from-number .ensures) ∙ c .before .enum-told .given .1, simp (c .before .before .before .before .before .before .is-flag2 .ensures, c .before .before .before .before .before .before .before .is-flag .ensures) at (c .before .before .before .before .before .if2 .taken), c .before .before .before .before .before .before .is-flag2 .ensures, c .before .before .before .before .before .before .before .is-flag .ensures, eq-eqb (length (c .before .before .before .before .before .before .before .before .before .before .args .ns .now)) 4 (c .before .before .before .before .before .before .before .before .if1 .left))
 
--- src/kinds.rt:180:30
 flag-at-requires : tie.Need-flag-at-requires
 flag-at-requires c κs = search needs
 
--- src/kinds.rt:180:46
 flag-at-requires-2 : tie.Need-flag-at-requires-2
 flag-at-requires-2 c κs = search needs
 
--- src/kinds.rt:180:9
 command-requires : tie.Need-command-requires
 command-requires c κs = search needs
 
--- src/kinds.rt:180:9
--- a variant with fields: add `c .before .before .before .before .ev .given .1`?
 returns-3 : tie.Need-returns-3
 unfolding commandLine
 returns-3 c = simp (c .command .ensures, c .before .flag-at2 .ensures, c .before .before .flag-at .ensures, sym (c .before .before .before .before .before .before .from-number .ensures) ∙ c .before .before .before .before .ev .given .1, simp (c .before .before .before .before .before .before .before .before .before .is-flag2 .ensures, c .before .before .before .before .before .before .before .before .before .before .is-flag .ensures) at (c .before .before .before .before .before .before .before .before .if2 .taken), c .before .before .before .before .before .before .before .before .before .is-flag2 .ensures, c .before .before .before .before .before .before .before .before .before .before .is-flag .ensures, eq-eqb (length (c .before .before .before .before .before .before .before .before .before .before .before .before .before .args .ns .now)) 4 (c .before .before .before .before .before .before .before .before .before .before .before .if1 .left))
 
--- src/kinds.rt:182:5
 refused-requires-3 : tie.Need-refused-requires-3
 refused-requires-3 c κs = search needs
 
--- src/kinds.rt:170:1
 returns-4 : tie.Need-returns-4
 unfolding commandLine
 returns-4 c = simp (c .refused3 .ensures, simp (c .before .before .is-flag2 .ensures, c .before .before .before .is-flag .ensures) at (c .before .if2 .left), c .before .before .is-flag2 .ensures, c .before .before .before .is-flag .ensures, eq-eqb (length (c .before .before .before .before .before .before .args .ns .now)) 4 (c .before .before .before .before .if1 .left))

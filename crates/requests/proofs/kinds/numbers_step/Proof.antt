@@ -1,67 +1,47 @@
 use Rattle.requests.specs.Kinds.{requestOf}
-use borrow.Author.Tests.{lt-ltb, le-ltb, le-leb, lt-leb, eq-eqb, ne-eqb}
+use borrow.Author.Tests.{eq-eqb, ne-eqb}
 use borrow.Author.Needs.{needs}
 use Rattle.requests.proofs.kinds.numbers_step.Statement.{statement}
 use Rattle.requests.proofs.kinds.numbers_step.Tie as tie
-use Rattle.requests.proofs.kinds.numbers_step.Reads as reads
-use Rattle.requests.proofs.kinds.numbers_step.Lts as lts
-use Rattle.falcon_core.proofs.calls.refused.Reads as refused-reads
-use Rattle.requests.proofs.kinds.command_line.Reads as command-line-reads
-use Rattle.requests.proofs.kinds.opening_line.Reads as opening-line-reads
-use Rattle.requests.proofs.kinds.points_line.Reads as points-line-reads
-use Rattle.requests.proofs.kinds.report_line.Reads as report-line-reads
-use Rattle.requests.proofs.kinds.tick_line.Reads as tick-line-reads
 
--- src/kinds.rt:221:16
 shared-slice-read-kind : tie.Need-shared-slice-read-kind
 shared-slice-read-kind c = search needs
 
--- src/kinds.rt:223:9
 opening-line-requires : tie.Need-opening-line-requires
 opening-line-requires c κs = search needs
 
--- src/kinds.rt:223:9
 returns : tie.Need-returns
 unfolding requestOf
 returns c = simp (c .opening-line .ensures, eq-eqb _ _ (c .before .if1 .taken))
 
--- src/kinds.rt:226:9
 tick-line-requires : tie.Need-tick-line-requires
 tick-line-requires c κs = search needs
 
--- src/kinds.rt:226:9
 returns-2 : tie.Need-returns-2
 unfolding requestOf
 returns-2 c = simp (c .tick-line .ensures, eq-eqb _ _ (c .before .if2 .taken), ne-eqb _ _ (c .before .before .if1 .left))
 
--- src/kinds.rt:229:9
 report-line-requires : tie.Need-report-line-requires
 report-line-requires c κs = search needs
 
--- src/kinds.rt:229:9
 returns-3 : tie.Need-returns-3
 unfolding requestOf
 returns-3 c = simp (c .report-line .ensures, eq-eqb _ _ (c .before .if3 .taken), ne-eqb _ _ (c .before .before .if2 .left), ne-eqb _ _ (c .before .before .before .if1 .left))
 
--- src/kinds.rt:232:9
 command-line-requires : tie.Need-command-line-requires
 command-line-requires c κs = search needs
 
--- src/kinds.rt:232:9
 returns-4 : tie.Need-returns-4
 unfolding requestOf
 returns-4 c = simp (c .command-line .ensures, eq-eqb _ _ (c .before .if4 .taken), ne-eqb _ _ (c .before .before .if3 .left), ne-eqb _ _ (c .before .before .before .if2 .left), ne-eqb _ _ (c .before .before .before .before .if1 .left))
 
--- src/kinds.rt:235:9
 points-line-requires : tie.Need-points-line-requires
 points-line-requires c κs = search needs
 
--- src/kinds.rt:235:9
 returns-5 : tie.Need-returns-5
 unfolding requestOf
 returns-5 c = simp (c .points-line .ensures, eq-eqb _ _ (c .before .if5 .taken), ne-eqb _ _ (c .before .before .if4 .left), ne-eqb _ _ (c .before .before .before .if3 .left), ne-eqb _ _ (c .before .before .before .before .if2 .left), ne-eqb _ _ (c .before .before .before .before .before .if1 .left))
 
--- src/kinds.rt:237:5
 zones-line-requires : tie.Need-zones-line-requires
 zones-line-requires c κs = search needs
 

@@ -6,15 +6,10 @@ use native.Mathlib.Omega.{arith}
 use Prim.Native.Nat.{_+_, _-_, _*_}
 use lib.ListN.{length, getD}
 use Rattle.requests.specs.Kinds.{pointsLine}
-use borrow.Author.Tests.{lt-ltb, le-ltb, le-leb, lt-leb, eq-eqb, ne-eqb}
+use borrow.Author.Tests.{eq-eqb, ne-eqb}
 use borrow.Author.Needs.{needs}
 use Rattle.requests.proofs.kinds.points_line.Statement.{statement}
 use Rattle.requests.proofs.kinds.points_line.Tie as tie
-use Rattle.requests.proofs.kinds.points_line.Reads as reads
-use Rattle.requests.proofs.kinds.points_line.Lts as lts
-use Rattle.falcon_core.proofs.calls.refused.Reads as refused-reads
-use Rattle.falcon_core.proofs.state.Supervisor.set_mission_waypoints.Reads as set-mission-waypoints-reads
-use Rattle.requests.proofs.kinds.read_floats.Reads as read-floats-reads
 
 refused-requires : tie.Need-refused-requires
 refused-requires c κs = search needs

@@ -1,16 +1,9 @@
 use mathlib.Core.Path.{sym, ap, _∙_}
 use Rattle.requests.specs.Kinds.{answeredBy}
 use Rattle.requests.proofs.Asking.{asked-read, read-counts, asked-broken, counted}
-use Rattle.requests.specs.Line.{askedLine}
-use borrow.Author.Tests.{lt-ltb, le-ltb, le-leb, lt-leb, eq-eqb, ne-eqb}
 use borrow.Author.Needs.{needs}
 use Rattle.requests.proofs.line.step.Statement.{statement}
 use Rattle.requests.proofs.line.step.Tie as tie
-use Rattle.requests.proofs.line.step.Reads as reads
-use Rattle.requests.proofs.line.step.Lts as lts
-use Rattle.falcon_core.proofs.calls.refused.Reads as refused-reads
-use Rattle.requests.proofs.kinds.numbers_step.Reads as numbers-step-reads
-use Rattle.columns.proofs.line.read_line.Reads as read-line-reads
 
 slice-aggregate-read-line : tie.Need-slice-aggregate-read-line
 slice-aggregate-read-line c = search needs

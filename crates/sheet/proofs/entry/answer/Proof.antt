@@ -3,8 +3,6 @@ use Rattle.falcon_core.specs.declared.calls.Answered.{Answered}
 use Rattle.falcon_core.specs.Calls.{numbersOf}
 use Rattle.columns.specs.Line.{writtenOver}
 use Rattle.sheet.proofs.Buffer.{short-state, short-refusal, short-buffer, full-step, full-written}
-use Rattle.sheet.specs.Entry.{lineStep, bufferAfter}
-use borrow.Author.Tests.{lt-ltb, le-ltb, le-leb, lt-leb, eq-eqb, ne-eqb}
 use borrow.Author.Needs.{needs}
 use Rattle.sheet.proofs.entry.answer.Statement.{statement}
 use Rattle.sheet.proofs.entry.answer.Tie as tie

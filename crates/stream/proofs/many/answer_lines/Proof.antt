@@ -6,7 +6,7 @@ use borrow.Author.Needs.{needs}
 use Rattle.stream.specs.Lines.{whole, lineEnd}
 use Rattle.stream.specs.Many.{afterLine, replyLine, replyWidth}
 use Rattle.stream.proofs.LinesAgain.{whole-most}
-use Rattle.stream.proofs.LinesTurns.{Going, going-first, going-next, going-more, going-last}
+use Rattle.stream.proofs.LinesTurns.{Going, going-first, going-next, going-last}
 use Rattle.stream.proofs.Replies.{length-reply, lines-progress, lines-buffer}
 use Rattle.stream.proofs.many.answer_lines.Statement.{statement}
 use Rattle.stream.proofs.many.answer_lines.Tie as tie

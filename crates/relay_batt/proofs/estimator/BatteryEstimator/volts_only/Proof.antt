@@ -21,7 +21,7 @@ shown-requires c κs = search needs
 
 returns : tie.Need-returns
 unfolding voltsOnlyOf
-returns c = cc
+returns c = simp (c .shown .ensures, c .before .update2 .ensures, c .before .before .before .before .update .ensures, c .before .before .before .before .before .before .before .ocv-soc-cell .ensures, c .before .before .before .before .before .before .before .before .cell-count .ensures)
 
 pub volts-only-spec : {M : Type 1} → statement M
 volts-only-spec =
