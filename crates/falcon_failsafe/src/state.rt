@@ -19,6 +19,13 @@ pub struct Counts {
     pub wind_count: u32,
 }
 
+// What the failsafes change: the mode, the counts and the latch.
+pub struct FailsafeState {
+    pub fsm: FlightFsm,
+    pub counts: Counts,
+    pub rtl_latched: bool,
+}
+
 // The flight: all that a tick reads and changes.
 pub struct FlightSupervisor {
     pub config: Config,

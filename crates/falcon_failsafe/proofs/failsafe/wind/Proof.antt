@@ -1,40 +1,47 @@
-use Rattle.falcon_failsafe.specs.Failsafe.{windOf, windGives, windCounted, windEnough}
+use Rattle.falcon_failsafe.proofs.Events.{failsafed-if}
+use Rattle.falcon_failsafe.specs.Failsafe.{windCountOf, windEnough, windFails, withWind, windIn}
+use borrow.Author.Tests.{lt-ltb, le-ltb, le-leb, lt-leb, eq-eqb, ne-eqb}
 use borrow.Author.Needs.{needs}
 use Rattle.falcon_failsafe.proofs.failsafe.wind.Statement.{statement}
 use Rattle.falcon_failsafe.proofs.failsafe.wind.Tie as tie
+use Rattle.falcon_failsafe.proofs.failsafe.wind.Reads as reads
+use Rattle.falcon_failsafe.proofs.failsafe.wind.Lts as lts
+use Rattle.falcon_failsafe.proofs.failsafe.counted.Reads as counted-reads
+use Rattle.falcon_failsafe.proofs.failsafe.in_flight.Reads as in-flight-reads
+use Rattle.falcon_failsafe.proofs.failsafe.on_if.Reads as on-if-reads
+use Rattle.relay_fsm.proofs.Mode.is.Reads as is-reads
+use Rattle.relay_fsm.proofs.Mode.is_airborne.Reads as is-airborne-reads
+use Rattle.relay_fsm.proofs.Mode.rank.Reads as rank-reads
 
+-- src/failsafe.rt:142:17
 is-airborne-requires : tie.Need-is-airborne-requires
 is-airborne-requires c κs = search needs
 
+-- src/failsafe.rt:142:39
 is-requires : tie.Need-is-requires
 is-requires c κs = search needs
 
-gusty-requires : tie.Need-gusty-requires
-gusty-requires c κs = search needs
+-- src/failsafe.rt:143:9
+counted-requires : tie.Need-counted-requires
+counted-requires c κs = search needs
 
-saturating-add-requires : tie.Need-saturating-add-requires
-saturating-add-requires c κs = search needs
-
+-- src/failsafe.rt:144:58
 rank-requires : tie.Need-rank-requires
 rank-requires c κs = search needs
 
+-- src/failsafe.rt:146:49
 in-flight-requires : tie.Need-in-flight-requires
 in-flight-requires c κs = search needs
 
-on-requires : tie.Need-on-requires
-on-requires c κs = search needs
+-- src/failsafe.rt:146:14
+on-if-requires : tie.Need-on-if-requires
+on-if-requires c κs = search needs
 
+-- src/failsafe.rt:137:1
+-- a variant with fields: add `c .before .before .before .before .before .before .before .fsm .given .1`?
 returns : tie.Need-returns
-unfolding windOf windGives windCounted windEnough
-returns c = simp (c .on .ensures, c .before .in-flight .ensures, simp (c .before .before .before .rank .ensures, c .before .before .before .before .before .saturating-add .ensures, c .before .before .before .before .before .before .before .gusty .ensures, c .before .before .before .before .before .before .before .before .is .ensures, c .before .before .before .before .before .before .before .before .before .is-airborne .ensures) at (c .before .before .if2 .taken), c .before .before .before .before .before .saturating-add .ensures, simp (c .before .before .before .before .before .before .before .gusty .ensures, c .before .before .before .before .before .before .before .before .is .ensures, c .before .before .before .before .before .before .before .before .before .is-airborne .ensures) at (c .before .before .before .before .before .before .if1 .taken), c .before .before .before .before .before .before .before .gusty .ensures, c .before .before .before .before .before .before .before .before .is .ensures, c .before .before .before .before .before .before .before .before .before .is-airborne .ensures)
-
-returns-2 : tie.Need-returns-2
-unfolding windOf windGives windCounted windEnough
-returns-2 c = simp (simp (c .before .rank .ensures, c .before .before .before .saturating-add .ensures, c .before .before .before .before .before .gusty .ensures, c .before .before .before .before .before .before .is .ensures, c .before .before .before .before .before .before .before .is-airborne .ensures) at (c .if2 .left), c .before .before .before .saturating-add .ensures, simp (c .before .before .before .before .before .gusty .ensures, c .before .before .before .before .before .before .is .ensures, c .before .before .before .before .before .before .before .is-airborne .ensures) at (c .before .before .before .before .if1 .taken), c .before .before .before .before .before .before .is .ensures, c .before .before .before .before .before .before .before .is-airborne .ensures)
-
-returns-3 : tie.Need-returns-3
-unfolding windOf windGives windCounted windEnough
-returns-3 c = simp (simp (c .before .before .gusty .ensures, c .before .before .before .is .ensures, c .before .before .before .before .is-airborne .ensures) at (c .before .if1 .left))
+unfolding windIn windEnough
+returns c = simp (c .before .on-if .ensures, c .before .before .in-flight .ensures, c .before .before .before .rank .ensures, c .before .before .before .before .counted .ensures, c .before .before .before .before .before .is .ensures, c .before .before .before .before .before .before .is-airborne .ensures) (failsafed-if (withWind (c .before .before .before .before .before .before .before .before .args .s) (windCountOf (c .before .before .before .before .before .before .before .before .args .s .fsm .mode) (c .before .before .before .before .before .before .before .before .args .gusty) (c .before .before .before .before .before .before .before .before .args .s .counts .«wind_count»))) (windFails (c .before .before .before .before .before .before .before .before .args .s .fsm .mode) (c .before .before .before .before .before .before .before .before .args .gusty) (windEnough (windCountOf (c .before .before .before .before .before .before .before .before .args .s .fsm .mode) (c .before .before .before .before .before .before .before .before .args .gusty) (c .before .before .before .before .before .before .before .before .args .s .counts .«wind_count»)))))
 
 pub wind-spec : {M : Type 1} → statement M
 wind-spec =
@@ -42,11 +49,8 @@ wind-spec =
     (tie.spec
     is-airborne-requires
     is-requires
-    gusty-requires
-    saturating-add-requires
+    counted-requires
     rank-requires
     in-flight-requires
-    on-requires
-    returns
-    returns-2
-    returns-3)
+    on-if-requires
+    returns)
