@@ -19,7 +19,7 @@ mode-if m false e = refl
 pub failsafed-if :
     (s : FailsafeState) (b : Bool)
     → _≡_ {A = FailsafeState}
-    (record { fsm = record { mode = cond b (onOf (s .fsm .mode) Failsafe inFlight) (s .fsm .mode) }; counts = s .counts; «rtl_latched» = b || s .«rtl_latched» })
+    (record { mode = cond b (onOf (s .mode) Failsafe inFlight) (s .mode); counts = s .counts; «rtl_latched» = b || s .«rtl_latched» })
     (failsafedIn s (cond b (some Failsafe) none))
 failsafed-if s true = refl
 failsafed-if s false = refl

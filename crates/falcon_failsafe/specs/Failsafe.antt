@@ -49,7 +49,7 @@ clearedOf f = withMode f (f .fsm .mode) (clearedLatch (f .fsm .mode) (f .«rtl_l
 -- a `Failsafe` given to the mode machine sets the latch
 abbrev pub failsafedIn : FailsafeState → Option Event → FailsafeState
 failsafedIn s e =
-    record { fsm = record { mode = modeAfter (s .fsm .mode) e }; counts = s .counts; «rtl_latched» = given e || s .«rtl_latched» }
+    record { mode = modeAfter (s .mode) e; counts = s .counts; «rtl_latched» = given e || s .«rtl_latched» }
 
 abbrev pub failsafed : FlightSupervisor → Option Event → FlightSupervisor
 failsafed f e = withFailsafes f (failsafedIn (failsafeStateOf f) e)
@@ -77,7 +77,7 @@ breachGives f t = breachEvent (f .fsm .mode) (breachOf f t) (f .battery .state .
 
 -- the breach paragraph, over what it changes and over the flight
 unfoldable pub breachedIn : FailsafeState → Bool → Bool → FailsafeState
-breachedIn s breach critical = failsafedIn s (breachEvent (s .fsm .mode) breach critical)
+breachedIn s breach critical = failsafedIn s (breachEvent (s .mode) breach critical)
 
 unfoldable pub breachedOf : FlightSupervisor → Tick → FlightSupervisor
 breachedOf f t = failsafed f (breachGives f t)
@@ -114,7 +114,7 @@ runawayGives f t = runawayEvent (f .fsm .mode) (tiltedOf t) (runawayEnough (runa
 abbrev pub terminatedIn : FailsafeState → ℕ → Option Event → FailsafeState
 terminatedIn s n e =
     record {
-      fsm = record { mode = modeAfter (s .fsm .mode) e };
+      mode = modeAfter (s .mode) e;
       counts = record { «runaway_count» = n; «wind_count» = s .counts .«wind_count» };
       «rtl_latched» = s .«rtl_latched»;
     }
@@ -122,8 +122,8 @@ terminatedIn s n e =
 -- the runaway paragraph, over what it changes and over the flight
 unfoldable pub runawayIn : FailsafeState → Bool → FailsafeState
 runawayIn s tilted =
-    let n = runawayCountOf (s .fsm .mode) tilted (s .counts .«runaway_count») in
-    terminatedIn s n (runawayEvent (s .fsm .mode) tilted (runawayEnough n))
+    let n = runawayCountOf (s .mode) tilted (s .counts .«runaway_count») in
+    terminatedIn s n (runawayEvent (s .mode) tilted (runawayEnough n))
 
 unfoldable pub runawayOf : FlightSupervisor → Tick → FlightSupervisor
 runawayOf f t = withFailsafes f (terminatedIn (failsafeStateOf f) (runawayCounted f t) (runawayGives f t))
@@ -173,7 +173,7 @@ windGives f t = windEvent (f .fsm .mode) (gustyOf t) (windEnough (windCounted f 
 abbrev pub withWind : FailsafeState → ℕ → FailsafeState
 withWind s n =
     record {
-      fsm = s .fsm;
+      mode = s .mode;
       counts = record { «runaway_count» = s .counts .«runaway_count»; «wind_count» = n };
       «rtl_latched» = s .«rtl_latched»;
     }
@@ -181,8 +181,8 @@ withWind s n =
 -- the wind paragraph, over what it changes and over the flight
 unfoldable pub windIn : FailsafeState → Bool → FailsafeState
 windIn s gusty =
-    let n = windCountOf (s .fsm .mode) gusty (s .counts .«wind_count») in
-    failsafedIn (withWind s n) (windEvent (s .fsm .mode) gusty (windEnough n))
+    let n = windCountOf (s .mode) gusty (s .counts .«wind_count») in
+    failsafedIn (withWind s n) (windEvent (s .mode) gusty (windEnough n))
 
 unfoldable pub windOf : FlightSupervisor → Tick → FlightSupervisor
 windOf f t = withFailsafes f (failsafedIn (withWind (failsafeStateOf f) (windCounted f t)) (windGives f t))

@@ -64,14 +64,14 @@ withMode f m latched =
 
 -- what the failsafes change
 abbrev pub failsafeStateOf : FlightSupervisor → FailsafeState
-failsafeStateOf f = record { fsm = f .fsm; counts = f .counts; «rtl_latched» = f .«rtl_latched» }
+failsafeStateOf f = record { mode = f .fsm .mode; counts = f .counts; «rtl_latched» = f .«rtl_latched» }
 
 -- the flight with what the failsafes change
 abbrev pub withFailsafes : FlightSupervisor → FailsafeState → FlightSupervisor
 withFailsafes f s =
     record {
       config = f .config;
-      fsm = s .fsm;
+      fsm = record { mode = s .mode };
       battery = f .battery;
       mission = f .mission;
       zones = f .zones;

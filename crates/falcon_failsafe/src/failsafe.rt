@@ -40,14 +40,16 @@ fn without_position() -> Gates
     }
 }
 
-// The mode machine after an event that is given or not.
-pub fn on_if(fsm: FlightFsm, given: bool, ev: Event, g: Gates) -> FlightFsm
-    ensures { λ r. ⌜ r ≡ record { mode = cond given (onOf (fsm .mode) ev g) (fsm .mode) } ⌝ }
+// The mode after an event that is given or not.
+pub fn on_if(mode: Mode, given: bool, ev: Event, g: Gates) -> Mode
+    ensures { λ r. ⌜ r ≡ cond given (onOf mode ev g) mode ⌝ }
 {
     if given {
-        return fsm.on(ev, g);
+        let fsm = FlightFsm { mode };
+        let after = fsm.on(ev, g);
+        return after.mode;
     }
-    fsm
+    mode
 }
 
 // Ticks in a row.
@@ -88,12 +90,11 @@ fn wanted(critical: bool) -> u32
 fn breached(s: FailsafeState, breach: bool, critical: bool) -> FailsafeState
     ensures { λ r. ⌜ r ≡ breachedIn s breach critical ⌝ }
 {
-    let fsm = s.fsm;
-    let mode = fsm.mode;
+    let mode = s.mode;
     let counts = s.counts;
     let given = mode.is_airborne() & (mode.rank() < wanted(critical)) & breach;
     FailsafeState {
-        fsm: on_if(fsm, given, Event::Failsafe, in_flight()),
+        mode: on_if(mode, given, Event::Failsafe, in_flight()),
         counts,
         rtl_latched: given | s.rtl_latched,
     }
@@ -110,13 +111,12 @@ fn tilted(t: Tick) -> bool
 fn runaway(s: FailsafeState, tilted: bool) -> FailsafeState
     ensures { λ r. ⌜ r ≡ runawayIn s tilted ⌝ }
 {
-    let fsm = s.fsm;
-    let mode = fsm.mode;
+    let mode = s.mode;
     let again = mode.is_airborne() & tilted;
     let count = counted(again, s.counts.runaway_count);
     let given = again & (count >= Tick::TILT_RUNAWAY_CYCLES);
     FailsafeState {
-        fsm: on_if(fsm, given, Event::Terminate, in_flight()),
+        mode: on_if(mode, given, Event::Terminate, in_flight()),
         counts: Counts {
             runaway_count: count,
             wind_count: s.counts.wind_count,
@@ -137,13 +137,12 @@ fn gusty(t: Tick) -> bool
 fn wind(s: FailsafeState, gusty: bool) -> FailsafeState
     ensures { λ r. ⌜ r ≡ windIn s gusty ⌝ }
 {
-    let fsm = s.fsm;
-    let mode = fsm.mode;
+    let mode = s.mode;
     let again = mode.is_airborne() & !mode.is(Mode::Land) & gusty;
     let count = counted(again, s.counts.wind_count);
     let given = again & ((count >= Tick::WIND_CYCLES) & (mode.rank() < 2));
     FailsafeState {
-        fsm: on_if(fsm, given, Event::Failsafe, in_flight()),
+        mode: on_if(mode, given, Event::Failsafe, in_flight()),
         counts: Counts {
             runaway_count: s.counts.runaway_count,
             wind_count: count,
@@ -174,7 +173,9 @@ pub fn reported(f: FlightSupervisor, failed: bool) -> FlightSupervisor
     let fsm = f.fsm;
     let mode = fsm.mode;
     let lost = motor_lost(mode, failed);
-    let land = on_if(fsm, lost, Event::Failsafe, without_position());
+    let land = FlightFsm {
+        mode: on_if(mode, lost, Event::Failsafe, without_position()),
+    };
     let mut next = f;
     next.fsm = land;
     next.rtl_latched = lost | f.rtl_latched;

@@ -58,10 +58,7 @@ fn readiness_rows(
     );
     let k = k.set(CheckId::MotorsHealthy, !failed);
     let k = k.set(CheckId::InsideGeofence, !outside);
-    k.set(
-        CheckId::NoFailsafeLatched,
-        !latched & !s.low & !s.critical,
-    )
+    k.set(CheckId::NoFailsafeLatched, !latched & !s.low & !s.critical)
 }
 
 // The rows that the supervisor knows from its own state; the battery is the one before this tick's reading.

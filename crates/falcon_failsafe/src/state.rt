@@ -11,6 +11,7 @@ use falcon_guidance::state::Zones;
 use relay_batt::BattConfig;
 use relay_batt::Battery;
 use relay_fsm::FlightFsm;
+use relay_fsm::Mode;
 use relay_preflight::CheckTable;
 
 // Ticks in a row of too much tilt and of high wind.
@@ -21,7 +22,7 @@ pub struct Counts {
 
 // What the failsafes change: the mode, the counts and the latch.
 pub struct FailsafeState {
-    pub fsm: FlightFsm,
+    pub mode: Mode,
     pub counts: Counts,
     pub rtl_latched: bool,
 }
