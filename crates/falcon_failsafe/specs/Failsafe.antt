@@ -14,9 +14,11 @@ use Rattle.relay_fsm.specs.declared.Gates.{Gates}
 use Rattle.relay_fsm.specs.Mode.{isMode, isAirborneOf, rankOf}
 use Rattle.relay_fsm.specs.Fsm.{onOf}
 use Rattle.relay_batt.specs.Battery.{lostOf}
+use Rattle.relay_batt.specs.declared.battery.Battery.{Battery}
 use Rattle.falcon_guidance.specs.declared.state.Tick.{Tick}
+use Rattle.falcon_failsafe.specs.declared.state.FailsafeState.{FailsafeState}
 use Rattle.falcon_failsafe.specs.declared.state.FlightSupervisor.{FlightSupervisor}
-use Rattle.falcon_failsafe.specs.State.{withMode, withCounts}
+use Rattle.falcon_failsafe.specs.State.{withMode, failsafeStateOf, withFailsafes}
 use Rattle.falcon_failsafe.specs.Preflight.{outsideGeofenceOf}
 
 -- the gates that `step` hands over: all hold
@@ -38,29 +40,45 @@ given none = false
 given (some e) = true
 
 -- "latch cleared if Disarmed"
+abbrev pub clearedLatch : Mode → Bool → Bool
+clearedLatch m latched = not (isMode m Disarmed) && latched
+
 unfoldable pub clearedOf : FlightSupervisor → FlightSupervisor
-clearedOf f = withMode f (f .fsm .mode) (not (isMode (f .fsm .mode) Disarmed) && f .«rtl_latched»)
+clearedOf f = withMode f (f .fsm .mode) (clearedLatch (f .fsm .mode) (f .«rtl_latched»))
 
 -- a `Failsafe` given to the mode machine sets the latch
+abbrev pub failsafedIn : FailsafeState → Option Event → FailsafeState
+failsafedIn s e =
+    record { mode = modeAfter (s .mode) e; counts = s .counts; «rtl_latched» = given e || s .«rtl_latched» }
+
 abbrev pub failsafed : FlightSupervisor → Option Event → FlightSupervisor
-failsafed f e = withMode f (modeAfter (f .fsm .mode) e) (given e || f .«rtl_latched»)
+failsafed f e = withFailsafes f (failsafedIn (failsafeStateOf f) e)
 
 -- "Breach: outside the fence, low, critical, or silence strictly above 1.0 s after one reading"
+abbrev pub breachIn : Battery → Bool → Bool
+breachIn b outside = outside || (b .state .low || b .state .critical || lostOf b)
+
 unfoldable pub breachOf : FlightSupervisor → Tick → Bool
-breachOf f t = outsideGeofenceOf (f .config) t || (f .battery .state .low || f .battery .state .critical || lostOf (f .battery))
+breachOf f t = breachIn (f .battery) (outsideGeofenceOf (f .config) t)
 
 -- "the rank wanted (3 critical, else 2)"
 abbrev pub wantedRank : Bool → ℕ
 wantedRank critical = cond critical 3 2
 
 -- "Failsafe only if the rank wanted exceeds the present one": the breach's event
+abbrev pub breachFails : Mode → Bool → Bool → Bool
+breachFails m breach critical = isAirborneOf m && ltb (rankOf m) (wantedRank critical) && breach
+
 abbrev pub breachEvent : Mode → Bool → Bool → Option Event
-breachEvent m breach critical = cond (isAirborneOf m && ltb (rankOf m) (wantedRank critical) && breach) (some Failsafe) none
+breachEvent m breach critical = cond (breachFails m breach critical) (some Failsafe) none
 
 unfoldable pub breachGives : FlightSupervisor → Tick → Option Event
 breachGives f t = breachEvent (f .fsm .mode) (breachOf f t) (f .battery .state .critical)
 
--- the breach paragraph
+-- the breach paragraph, over what it changes and over the flight
+unfoldable pub breachedIn : FailsafeState → Bool → Bool → FailsafeState
+breachedIn s breach critical = failsafedIn s (breachEvent (s .mode) breach critical)
+
 unfoldable pub breachedOf : FlightSupervisor → Tick → FlightSupervisor
 breachedOf f t = failsafed f (breachGives f t)
 
@@ -92,11 +110,23 @@ runawayCounted f t = runawayCountOf (f .fsm .mode) (tiltedOf t) (f .counts .«ru
 unfoldable pub runawayGives : FlightSupervisor → Tick → Option Event
 runawayGives f t = runawayEvent (f .fsm .mode) (tiltedOf t) (runawayEnough (runawayCounted f t))
 
--- the runaway paragraph
+-- this count and this event
+abbrev pub terminatedIn : FailsafeState → ℕ → Option Event → FailsafeState
+terminatedIn s n e =
+    record {
+      mode = modeAfter (s .mode) e;
+      counts = record { «runaway_count» = n; «wind_count» = s .counts .«wind_count» };
+      «rtl_latched» = s .«rtl_latched»;
+    }
+
+-- the runaway paragraph, over what it changes and over the flight
+unfoldable pub runawayIn : FailsafeState → Bool → FailsafeState
+runawayIn s tilted =
+    let n = runawayCountOf (s .mode) tilted (s .counts .«runaway_count») in
+    terminatedIn s n (runawayEvent (s .mode) tilted (runawayEnough n))
+
 unfoldable pub runawayOf : FlightSupervisor → Tick → FlightSupervisor
-runawayOf f t =
-    withMode (withCounts f (record { «runaway_count» = runawayCounted f t; «wind_count» = f .counts .«wind_count» }))
-    (modeAfter (f .fsm .mode) (runawayGives f t)) (f .«rtl_latched»)
+runawayOf f t = withFailsafes f (terminatedIn (failsafeStateOf f) (runawayCounted f t) (runawayGives f t))
 
 -- `WIND_SAT_THRESHOLD` 0.95, `WIND_TILT_MIN` 0.30, `WIND_TILT_CEIL` 0.70 and `WIND_CYCLES` 125
 abbrev pub windSatThreshold : Float
@@ -115,16 +145,23 @@ windCycles = 125
 unfoldable pub gustyOf : Tick → Bool
 gustyOf t = le windSatThreshold (t .«max_motor») && (le windTiltMin (t .tilt) && le (t .tilt) windTiltCeil)
 
--- ticks in a row airborne, not in Land, and gusty
+-- airborne, not in Land, and gusty
+abbrev pub windyIn : Mode → Bool → Bool
+windyIn m gusty = isAirborneOf m && not (isMode m Land) && gusty
+
+-- windy ticks in a row
 abbrev pub windCountOf : Mode → Bool → ℕ → ℕ
-windCountOf m gusty n = cond (isAirborneOf m && not (isMode m Land) && gusty) (saturatingAddOf n 1) 0
+windCountOf m gusty n = cond (windyIn m gusty) (saturatingAddOf n 1) 0
 
 unfoldable pub windEnough : ℕ → Bool
 windEnough n = leb windCycles n
 
 -- "from the 125th on Failsafe and latch, only where the rank is below 2"
+abbrev pub windFails : Mode → Bool → Bool → Bool
+windFails m gusty enough = windyIn m gusty && (enough && ltb (rankOf m) 2)
+
 abbrev pub windEvent : Mode → Bool → Bool → Option Event
-windEvent m gusty enough = cond (isAirborneOf m && not (isMode m Land) && gusty && (enough && ltb (rankOf m) 2)) (some Failsafe) none
+windEvent m gusty enough = cond (windFails m gusty enough) (some Failsafe) none
 
 unfoldable pub windCounted : FlightSupervisor → Tick → ℕ
 windCounted f t = windCountOf (f .fsm .mode) (gustyOf t) (f .counts .«wind_count»)
@@ -132,10 +169,27 @@ windCounted f t = windCountOf (f .fsm .mode) (gustyOf t) (f .counts .«wind_coun
 unfoldable pub windGives : FlightSupervisor → Tick → Option Event
 windGives f t = windEvent (f .fsm .mode) (gustyOf t) (windEnough (windCounted f t))
 
--- the wind paragraph
+-- with this count of windy ticks
+abbrev pub withWind : FailsafeState → ℕ → FailsafeState
+withWind s n =
+    record {
+      mode = s .mode;
+      counts = record { «runaway_count» = s .counts .«runaway_count»; «wind_count» = n };
+      «rtl_latched» = s .«rtl_latched»;
+    }
+
+-- the wind paragraph, over what it changes and over the flight
+unfoldable pub windIn : FailsafeState → Bool → FailsafeState
+windIn s gusty =
+    let n = windCountOf (s .mode) gusty (s .counts .«wind_count») in
+    failsafedIn (withWind s n) (windEvent (s .mode) gusty (windEnough n))
+
 unfoldable pub windOf : FlightSupervisor → Tick → FlightSupervisor
-windOf f t =
-    failsafed (withCounts f (record { «runaway_count» = f .counts .«runaway_count»; «wind_count» = windCounted f t })) (windGives f t)
+windOf f t = withFailsafes f (failsafedIn (withWind (failsafeStateOf f) (windCounted f t)) (windGives f t))
+
+-- the three failsafe paragraphs in their order, with the battery of this tick
+unfoldable pub failsafesIn : FailsafeState → Battery → Bool → Tick → FailsafeState
+failsafesIn s b outside t = windIn (runawayIn (breachedIn s (breachIn b outside) (b .state .critical)) (tiltedOf t)) (gustyOf t)
 
 -- a failed motor "in Takeoff, Loiter, Mission or Rtl": airborne and not in Land
 abbrev pub motorLost : Mode → Bool → Bool

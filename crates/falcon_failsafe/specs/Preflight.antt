@@ -6,6 +6,7 @@ use Rattle.relay_preflight.specs.declared.CheckTable.{CheckTable}
 use Rattle.relay_preflight.specs.declared.CheckId.the-variants.{SensorsHealthy, EstimatorConverged, CalibrationPresent, GeofenceLoaded, BatteryOk, EstimatorInnovation, GnssAgreement, GeofenceSane, BatteryTakeoffMargin, MotorsHealthy, InsideGeofence, NoFailsafeLatched, EscTelemetry}
 use Rattle.relay_preflight.specs.Table.{setOf, isRequiredOf}
 use Rattle.relay_batt.specs.declared.battery.Battery.{Battery}
+use Rattle.relay_batt.specs.declared.estimator.BattState.{BattState}
 use Rattle.falcon_guidance.specs.declared.state.Config.{Config}
 use Rattle.falcon_guidance.specs.declared.state.Tick.{Tick}
 use Rattle.falcon_guidance.specs.State.{zerof}
@@ -36,25 +37,32 @@ navRowsOf k c t =
     CalibrationPresent (c .«calibration_configured»))
     GeofenceLoaded (lt zerof (c .«fence_radius»))
 
--- the BatteryOk row and the nav integrity rows
-unfoldable pub integrityRowsOf : CheckTable → Battery → Tick → CheckTable
-integrityRowsOf k b t =
-    setOf
-    (setOf (setOf k BatteryOk (b .present && not (b .state .low || b .state .critical))) EstimatorInnovation (not (t .«nav_compromised»)))
+-- the BatteryOk row and the nav integrity rows, of a battery that is present or not
+abbrev pub integrityRowsIn : CheckTable → Bool → BattState → Tick → CheckTable
+integrityRowsIn k present s t =
+    setOf (setOf (setOf k BatteryOk (present && not (s .low || s .critical))) EstimatorInnovation (not (t .«nav_compromised»)))
     GnssAgreement (not (t .«gnss_diverged»))
 
--- the remaining rows
-unfoldable pub readinessRowsOf : CheckTable → Config → Battery → Bool → Tick → CheckTable
-readinessRowsOf k c b latched t =
+unfoldable pub integrityRowsOf : CheckTable → Battery → Tick → CheckTable
+integrityRowsOf k b t = integrityRowsIn k (b .present) (b .state) t
+
+-- the remaining rows, outside the fence or not and with a failed motor or not
+abbrev pub readinessRowsIn : CheckTable → Config → BattState → Bool → Bool → Bool → CheckTable
+readinessRowsIn k c s latched outside failed =
     setOf
     (setOf
-    (setOf
-    (setOf (setOf k GeofenceSane (geofenceSaneOf c)) BatteryTakeoffMargin (b .state .degraded || le takeoffMarginSoc (b .state .soc)))
-    MotorsHealthy (not (t .«failed_motor»)))
-    InsideGeofence (not (outsideGeofenceOf c t)))
-    NoFailsafeLatched (not latched && not (b .state .low) && not (b .state .critical))
+    (setOf (setOf (setOf k GeofenceSane (geofenceSaneOf c)) BatteryTakeoffMargin (s .degraded || le takeoffMarginSoc (s .soc))) MotorsHealthy (not failed))
+    InsideGeofence (not outside))
+    NoFailsafeLatched (not latched && not (s .low) && not (s .critical))
 
--- `update_preflight`, from the battery state BEFORE this tick's reading
+unfoldable pub readinessRowsOf : CheckTable → Config → Battery → Bool → Tick → CheckTable
+readinessRowsOf k c b latched t = readinessRowsIn k c (b .state) latched (outsideGeofenceOf c t) (t .«failed_motor»)
+
+-- `update_preflight`, from the battery state BEFORE this tick's reading; outside the fence or not, and over the tick
+unfoldable pub updatePreflightIn : CheckTable → Config → Battery → Bool → Bool → Tick → CheckTable
+updatePreflightIn k c b latched outside t =
+    readinessRowsIn (integrityRowsOf (navRowsOf k c t) b t) c (b .state) latched outside (t .«failed_motor»)
+
 unfoldable pub updatePreflightOf : CheckTable → Config → Battery → Bool → Tick → CheckTable
 updatePreflightOf k c b latched t = readinessRowsOf (integrityRowsOf (navRowsOf k c t) b t) c b latched t
 

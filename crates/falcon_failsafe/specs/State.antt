@@ -12,7 +12,7 @@ use Rattle.falcon_guidance.specs.declared.state.Mission.{Mission}
 use Rattle.falcon_guidance.specs.declared.state.Zones.{Zones}
 use Rattle.falcon_guidance.specs.declared.state.Hold.{Hold}
 use Rattle.falcon_guidance.specs.State.{zerof, origin, noZone, maxWaypoints, maxKeepoutZones}
-use Rattle.falcon_failsafe.specs.declared.state.Counts.{Counts}
+use Rattle.falcon_failsafe.specs.declared.state.FailsafeState.{FailsafeState}
 use Rattle.falcon_failsafe.specs.declared.state.Opening.{Opening}
 use Rattle.falcon_failsafe.specs.declared.state.FlightSupervisor.{FlightSupervisor}
 
@@ -62,19 +62,23 @@ withMode f m latched =
       «motors_were_off» = f .«motors_were_off»;
     }
 
--- the flight with these counts
-abbrev pub withCounts : FlightSupervisor → Counts → FlightSupervisor
-withCounts f n =
+-- what the failsafes change
+abbrev pub failsafeStateOf : FlightSupervisor → FailsafeState
+failsafeStateOf f = record { mode = f .fsm .mode; counts = f .counts; «rtl_latched» = f .«rtl_latched» }
+
+-- the flight with what the failsafes change
+abbrev pub withFailsafes : FlightSupervisor → FailsafeState → FlightSupervisor
+withFailsafes f s =
     record {
       config = f .config;
-      fsm = f .fsm;
+      fsm = record { mode = s .mode };
       battery = f .battery;
       mission = f .mission;
       zones = f .zones;
       hold = f .hold;
-      counts = n;
+      counts = s .counts;
       «check_table» = f .«check_table»;
-      «rtl_latched» = f .«rtl_latched»;
+      «rtl_latched» = s .«rtl_latched»;
       «motors_were_off» = f .«motors_were_off»;
     }
 

@@ -1,10 +1,15 @@
 // The failsafes: breach, attitude runaway, high wind, and the report of a failed motor.
 ghost use mathlib.Core.Path.{_≡_};
-ghost use Rattle.falcon_failsafe.specs.Failsafe.{inFlight, withoutPosition, clearedOf, breachOf, wantedRank, breachedOf};
-ghost use Rattle.falcon_failsafe.specs.Failsafe.{tiltedOf, runawayOf, gustyOf, windOf, reportedOf};
-use crate::preflight::outside_geofence;
+ghost use mathlib.Core.Bool.{cond};
+ghost use Rattle.relay_math.specs.Small.{saturatingAddOf};
+ghost use Rattle.relay_fsm.specs.Fsm.{onOf};
+ghost use Rattle.falcon_failsafe.specs.Failsafe.{inFlight, withoutPosition, clearedLatch, breachIn, wantedRank, breachedIn};
+ghost use Rattle.falcon_failsafe.specs.Failsafe.{tiltedOf, runawayIn, gustyOf, windIn, failsafesIn, motorLost, reportedOf};
+use crate::state::Counts;
+use crate::state::FailsafeState;
 use crate::state::FlightSupervisor;
 use falcon_guidance::state::Tick;
+use relay_batt::Battery;
 use relay_fsm::Event;
 use relay_fsm::FlightFsm;
 use relay_fsm::Gates;
@@ -35,25 +40,40 @@ fn without_position() -> Gates
     }
 }
 
-// The latch is cleared while Disarmed.
-pub fn cleared(f: FlightSupervisor) -> FlightSupervisor
-    ensures { λ r. ⌜ r ≡ clearedOf f ⌝ }
+// The mode after an event that is given or not.
+pub fn on_if(mode: Mode, given: bool, ev: Event, g: Gates) -> Mode
+    ensures { λ r. ⌜ r ≡ cond given (onOf mode ev g) mode ⌝ }
 {
-    let fsm = f.fsm;
-    let mode = fsm.mode;
-    let mut next = f;
-    next.rtl_latched = !mode.is(Mode::Disarmed) & f.rtl_latched;
-    next
+    if given {
+        let fsm = FlightFsm { mode };
+        let after = fsm.on(ev, g);
+        return after.mode;
+    }
+    mode
+}
+
+// Ticks in a row.
+fn counted(again: bool, n: u32) -> u32
+    ensures { λ r. ⌜ r ≡ cond again (saturatingAddOf n 1) 0 ⌝ }
+{
+    if again {
+        return saturating_add(n, 1);
+    }
+    0
+}
+
+// The latch is cleared while Disarmed.
+pub fn cleared(mode: Mode, latched: bool) -> bool
+    ensures { λ r. ⌜ r ≡ clearedLatch mode latched ⌝ }
+{
+    !mode.is(Mode::Disarmed) & latched
 }
 
 // Outside the fence, or a battery that is low, critical or lost.
-fn breach(f: FlightSupervisor, t: Tick) -> bool
-    ensures { λ r. ⌜ r ≡ breachOf f t ⌝ }
+fn breach(b: Battery, outside: bool) -> bool
+    ensures { λ r. ⌜ r ≡ breachIn b outside ⌝ }
 {
-    let config = f.config;
-    let battery = f.battery;
-    let fail = battery.state.low | battery.state.critical | battery.lost();
-    outside_geofence(config, t) | fail
+    outside | (b.state.low | b.state.critical | b.lost())
 }
 
 // The rank that a breach wants.
@@ -67,20 +87,17 @@ fn wanted(critical: bool) -> u32
 }
 
 // A breach is a failsafe where it wants a higher rank than the present one.
-pub fn breached(f: FlightSupervisor, t: Tick) -> FlightSupervisor
-    ensures { λ r. ⌜ r ≡ breachedOf f t ⌝ }
+fn breached(s: FailsafeState, breach: bool, critical: bool) -> FailsafeState
+    ensures { λ r. ⌜ r ≡ breachedIn s breach critical ⌝ }
 {
-    let fsm = f.fsm;
-    let mode = fsm.mode;
-    let want = wanted(f.battery.state.critical);
-    if mode.is_airborne() & (mode.rank() < want) & breach(f, t) {
-        let failsafe = fsm.on(Event::Failsafe, in_flight());
-        let mut next = f;
-        next.fsm = failsafe;
-        next.rtl_latched = true;
-        return next;
+    let mode = s.mode;
+    let counts = s.counts;
+    let given = mode.is_airborne() & (mode.rank() < wanted(critical)) & breach;
+    FailsafeState {
+        mode: on_if(mode, given, Event::Failsafe, in_flight()),
+        counts,
+        rtl_latched: given | s.rtl_latched,
     }
-    f
 }
 
 // More tilt than any flight attitude.
@@ -91,24 +108,21 @@ fn tilted(t: Tick) -> bool
 }
 
 // Too much tilt for too many ticks in a row cuts the motors.
-pub fn runaway(f: FlightSupervisor, t: Tick) -> FlightSupervisor
-    ensures { λ r. ⌜ r ≡ runawayOf f t ⌝ }
+fn runaway(s: FailsafeState, tilted: bool) -> FailsafeState
+    ensures { λ r. ⌜ r ≡ runawayIn s tilted ⌝ }
 {
-    let fsm = f.fsm;
-    let mode = fsm.mode;
-    let mut next = f;
-    if mode.is_airborne() & tilted(t) {
-        let count = saturating_add(f.counts.runaway_count, 1);
-        next.counts.runaway_count = count;
-        if count >= Tick::TILT_RUNAWAY_CYCLES {
-            let terminated = fsm.on(Event::Terminate, in_flight());
-            next.fsm = terminated;
-            return next;
-        }
-        return next;
+    let mode = s.mode;
+    let again = mode.is_airborne() & tilted;
+    let count = counted(again, s.counts.runaway_count);
+    let given = again & (count >= Tick::TILT_RUNAWAY_CYCLES);
+    FailsafeState {
+        mode: on_if(mode, given, Event::Terminate, in_flight()),
+        counts: Counts {
+            runaway_count: count,
+            wind_count: s.counts.wind_count,
+        },
+        rtl_latched: s.rtl_latched,
     }
-    next.counts.runaway_count = 0;
-    next
 }
 
 // The motors are saturated while the vehicle leans hard and does not tumble.
@@ -120,25 +134,36 @@ fn gusty(t: Tick) -> bool
 }
 
 // High wind for too many ticks in a row is a failsafe where the rank is below that of Rtl.
-pub fn wind(f: FlightSupervisor, t: Tick) -> FlightSupervisor
-    ensures { λ r. ⌜ r ≡ windOf f t ⌝ }
+fn wind(s: FailsafeState, gusty: bool) -> FailsafeState
+    ensures { λ r. ⌜ r ≡ windIn s gusty ⌝ }
 {
-    let fsm = f.fsm;
-    let mode = fsm.mode;
-    let mut next = f;
-    if mode.is_airborne() & !mode.is(Mode::Land) & gusty(t) {
-        let count = saturating_add(f.counts.wind_count, 1);
-        next.counts.wind_count = count;
-        if (count >= Tick::WIND_CYCLES) & (mode.rank() < 2) {
-            let failsafe = fsm.on(Event::Failsafe, in_flight());
-            next.fsm = failsafe;
-            next.rtl_latched = true;
-            return next;
-        }
-        return next;
+    let mode = s.mode;
+    let again = mode.is_airborne() & !mode.is(Mode::Land) & gusty;
+    let count = counted(again, s.counts.wind_count);
+    let given = again & ((count >= Tick::WIND_CYCLES) & (mode.rank() < 2));
+    FailsafeState {
+        mode: on_if(mode, given, Event::Failsafe, in_flight()),
+        counts: Counts {
+            runaway_count: s.counts.runaway_count,
+            wind_count: count,
+        },
+        rtl_latched: given | s.rtl_latched,
     }
-    next.counts.wind_count = 0;
-    next
+}
+
+// The failsafes in their order, with the battery after this tick's reading.
+pub fn failsafes(s: FailsafeState, b: Battery, outside: bool, t: Tick) -> FailsafeState
+    ensures { λ r. ⌜ r ≡ failsafesIn s b outside t ⌝ }
+{
+    let s = breached(s, breach(b, outside), b.state.critical);
+    wind(runaway(s, tilted(t)), gusty(t))
+}
+
+// A motor failed in flight, before Land.
+fn motor_lost(mode: Mode, failed: bool) -> bool
+    ensures { λ r. ⌜ r ≡ motorLost mode failed ⌝ }
+{
+    mode.is_airborne() & !mode.is(Mode::Land) & failed
 }
 
 // A failed motor in flight leads to Land.
@@ -147,12 +172,12 @@ pub fn reported(f: FlightSupervisor, failed: bool) -> FlightSupervisor
 {
     let fsm = f.fsm;
     let mode = fsm.mode;
-    if mode.is_airborne() & !mode.is(Mode::Land) & failed {
-        let land = fsm.on(Event::Failsafe, without_position());
-        let mut next = f;
-        next.fsm = land;
-        next.rtl_latched = true;
-        return next;
-    }
-    f
+    let lost = motor_lost(mode, failed);
+    let land = FlightFsm {
+        mode: on_if(mode, lost, Event::Failsafe, without_position()),
+    };
+    let mut next = f;
+    next.fsm = land;
+    next.rtl_latched = lost | f.rtl_latched;
+    next
 }

@@ -1,23 +1,14 @@
 // The checks that a tick sets.
 ghost use mathlib.Core.Path.{_≡_};
-ghost use Rattle.falcon_failsafe.specs.Preflight.{outsideGeofenceOf, geofenceSaneOf, navRowsOf, integrityRowsOf};
-ghost use Rattle.falcon_failsafe.specs.Preflight.{readinessRowsOf, updatePreflightOf, escTelemetryOf};
-use falcon_guidance::geometry::distance;
+ghost use Rattle.falcon_failsafe.specs.Preflight.{geofenceSaneOf, navRowsOf, integrityRowsIn, readinessRowsIn};
+ghost use Rattle.falcon_failsafe.specs.Preflight.{updatePreflightIn, escTelemetryOf};
 use falcon_guidance::state::Config;
 use falcon_guidance::state::Tick;
+use relay_batt::BattState;
 use relay_batt::Battery;
 use relay_math::is_finite;
 use relay_preflight::CheckId;
 use relay_preflight::CheckTable;
-
-// The estimated position is outside the geofence.
-pub(crate) fn outside_geofence(c: Config, t: Tick) -> bool
-    ensures { λ r. ⌜ r ≡ outsideGeofenceOf c t ⌝ }
-{
-    let p = t.p;
-    let home = c.home;
-    distance(p, home) > c.fence_radius
-}
 
 // A finite fence above 0 and a finite home.
 fn geofence_sane(c: Config) -> bool
@@ -41,41 +32,50 @@ fn nav_rows(k: CheckTable, c: Config, t: Tick) -> CheckTable
 }
 
 // The battery's row and those of the navigation's integrity.
-fn integrity_rows(k: CheckTable, b: Battery, t: Tick) -> CheckTable
-    ensures { λ r. ⌜ r ≡ integrityRowsOf k b t ⌝ }
+fn integrity_rows(k: CheckTable, present: bool, s: BattState, t: Tick) -> CheckTable
+    ensures { λ r. ⌜ r ≡ integrityRowsIn k present s t ⌝ }
 {
-    let k = k.set(
-        CheckId::BatteryOk,
-        b.present & !(b.state.low | b.state.critical),
-    );
+    let k = k.set(CheckId::BatteryOk, present & !(s.low | s.critical));
     let k = k.set(CheckId::EstimatorInnovation, !t.nav_compromised);
     k.set(CheckId::GnssAgreement, !t.gnss_diverged)
 }
 
 // The remaining rows.
-fn readiness_rows(k: CheckTable, c: Config, b: Battery, latched: bool, t: Tick) -> CheckTable
-    ensures { λ r. ⌜ r ≡ readinessRowsOf k c b latched t ⌝ }
+fn readiness_rows(
+    k: CheckTable,
+    c: Config,
+    s: BattState,
+    latched: bool,
+    outside: bool,
+    failed: bool,
+) -> CheckTable
+    ensures { λ r. ⌜ r ≡ readinessRowsIn k c s latched outside failed ⌝ }
 {
     let k = k.set(CheckId::GeofenceSane, geofence_sane(c));
     let k = k.set(
         CheckId::BatteryTakeoffMargin,
-        b.state.degraded | (b.state.soc >= Tick::TAKEOFF_MARGIN_SOC),
+        s.degraded | (s.soc >= Tick::TAKEOFF_MARGIN_SOC),
     );
-    let k = k.set(CheckId::MotorsHealthy, !t.failed_motor);
-    let k = k.set(CheckId::InsideGeofence, !outside_geofence(c, t));
-    k.set(
-        CheckId::NoFailsafeLatched,
-        !latched & !b.state.low & !b.state.critical,
-    )
+    let k = k.set(CheckId::MotorsHealthy, !failed);
+    let k = k.set(CheckId::InsideGeofence, !outside);
+    k.set(CheckId::NoFailsafeLatched, !latched & !s.low & !s.critical)
 }
 
 // The rows that the supervisor knows from its own state; the battery is the one before this tick's reading.
-pub fn update_preflight(k: CheckTable, c: Config, b: Battery, latched: bool, t: Tick) -> CheckTable
-    ensures { λ r. ⌜ r ≡ updatePreflightOf k c b latched t ⌝ }
+pub fn update_preflight(
+    k: CheckTable,
+    c: Config,
+    b: Battery,
+    latched: bool,
+    outside: bool,
+    t: Tick,
+) -> CheckTable
+    ensures { λ r. ⌜ r ≡ updatePreflightIn k c b latched outside t ⌝ }
 {
+    let state = b.state;
     let k = nav_rows(k, c, t);
-    let k = integrity_rows(k, b, t);
-    readiness_rows(k, c, b, latched, t)
+    let k = integrity_rows(k, b.present, state, t);
+    readiness_rows(k, c, state, latched, outside, t.failed_motor)
 }
 
 // Motor rpm is seen, or missed where it is required.

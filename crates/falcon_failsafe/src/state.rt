@@ -11,12 +11,20 @@ use falcon_guidance::state::Zones;
 use relay_batt::BattConfig;
 use relay_batt::Battery;
 use relay_fsm::FlightFsm;
+use relay_fsm::Mode;
 use relay_preflight::CheckTable;
 
 // Ticks in a row of too much tilt and of high wind.
 pub struct Counts {
     pub runaway_count: u32,
     pub wind_count: u32,
+}
+
+// What the failsafes change: the mode, the counts and the latch.
+pub struct FailsafeState {
+    pub mode: Mode,
+    pub counts: Counts,
+    pub rtl_latched: bool,
 }
 
 // The flight: all that a tick reads and changes.

@@ -10,7 +10,6 @@ use Rattle.relay_fsm.specs.declared.Mode.the-variants.{Disarmed, Armed, Takeoff
 use Rattle.relay_fsm.specs.declared.Event.{Event}
 use Rattle.relay_fsm.specs.declared.Event.the-variants.{ReachedAltitude, ReachedHome, Touchdown, RequestRtl}
 use Rattle.relay_fsm.specs.Mode.{isMode}
-use Rattle.relay_fsm.specs.Fsm.{onOf}
 use Rattle.falcon_guidance.specs.declared.state.Point.{Point}
 use Rattle.falcon_guidance.specs.declared.state.Config.{Config}
 use Rattle.falcon_guidance.specs.declared.state.Tick.{Tick}
@@ -19,7 +18,8 @@ use Rattle.falcon_failsafe.specs.declared.state.FlightSupervisor.{FlightSupervi
 use Rattle.falcon_failsafe.specs.State.{withMode, withMission}
 use Rattle.falcon_guidance.specs.Geometry.{distanceOf}
 use Rattle.falcon_guidance.specs.Mission.{currentWaypointOf}
-use Rattle.falcon_failsafe.specs.Failsafe.{inFlight, modeAfter}
+use Rattle.falcon_failsafe.specs.Failsafe.{modeAfter}
+use Rattle.falcon_flight.specs.declared.milestone.Reached.{Reached}
 
 -- the limits 0.2, 0.4 and 0.15 of `step`, and `WAYPOINT_RADIUS` 1.2
 abbrev pub altitudeMargin : Float
@@ -39,16 +39,25 @@ unfoldable pub heightOf : Tick → Float
 heightOf t = neg (t .p .z)
 
 -- the height is above the cruise height less 0.2
+abbrev pub highAt : Float → Float → Bool
+highAt cruise height = lt (sub binary32 cruise altitudeMargin) height
+
 unfoldable pub highOf : Config → Tick → Bool
-highOf c t = lt (sub binary32 (c .«cruise_alt») altitudeMargin) (heightOf t)
+highOf c t = highAt (c .«cruise_alt») (heightOf t)
 
 -- the horizontal distance from home is below 0.4
+abbrev pub nearHomeAt : Float → Bool
+nearHomeAt home = lt home homeRadius
+
 unfoldable pub nearHomeOf : Config → Tick → Bool
-nearHomeOf c t = lt (distanceOf (t .p) (c .home)) homeRadius
+nearHomeOf c t = nearHomeAt (distanceOf (t .p) (c .home))
 
 -- the height is below 0.15
+abbrev pub nearGroundAt : Float → Bool
+nearGroundAt height = lt height touchdownAlt
+
 unfoldable pub nearGroundOf : Tick → Bool
-nearGroundOf t = lt (heightOf t) touchdownAlt
+nearGroundOf t = nearGroundAt (heightOf t)
 
 -- `wd`: the distance of two points
 unfoldable pub distance3Of : Point → Point → Float
@@ -59,8 +68,11 @@ distance3Of p q =
     root (add binary32 (add binary32 (mul binary32 dx dx) (mul binary32 dy dy)) (mul binary32 dz dz))
 
 -- the current waypoint is nearer than 1.2
+abbrev pub arrivedAt : Config → MissionState → Point → Bool
+arrivedAt c m p = lt (distance3Of p (currentWaypointOf c m)) waypointRadius
+
 unfoldable pub arrivedOf : FlightSupervisor → Tick → Bool
-arrivedOf f t = lt (distance3Of (t .p) (currentWaypointOf (f .config) (f .mission))) waypointRadius
+arrivedOf f t = arrivedAt (f .config) (f .mission) (t .p)
 
 -- a further leg follows the active one
 abbrev pub moreOf : MissionState → Bool
@@ -82,17 +94,21 @@ milestoneGives f t =
     milestoneEvent (f .fsm .mode) (highOf (f .config) t) (nearHomeOf (f .config) t) (nearGroundOf t) (arrivedOf f t) (moreOf (f .mission))
 
 -- the leg: one further in Mission where the waypoint is reached and another follows
-unfoldable pub legOf : FlightSupervisor → Tick → ℕ
-legOf f t =
-    cond (isMode (f .fsm .mode) Mission && arrivedOf f t && moreOf (f .mission)) (f .mission .«wp_index» + 1) (f .mission .«wp_index»)
+abbrev pub legIn : Mode → Bool → MissionState → ℕ
+legIn m arrived s = cond (isMode m Mission && arrived && moreOf s) (s .«wp_index» + 1) (s .«wp_index»)
 
--- a waypoint reached in Mission: the next leg, or the return after the last
-unfoldable pub advancedOf : FlightSupervisor → FlightSupervisor
-advancedOf f =
-    cond (moreOf (f .mission))
-    (withMission f
-    (record { waypoints = f .mission .waypoints; «wp_count» = f .mission .«wp_count»; «wp_index» = f .mission .«wp_index» + 1 }))
-    (withMode f (onOf (f .fsm .mode) RequestRtl inFlight) (f .«rtl_latched»))
+unfoldable pub legOf : FlightSupervisor → Tick → ℕ
+legOf f t = legIn (f .fsm .mode) (arrivedOf f t) (f .mission)
+
+-- what the milestone changes, of a vehicle at this distance from home and this point: the mode and the leg
+unfoldable pub milestoneIn : Mode → Config → MissionState → Float → Point → Reached
+milestoneIn m c s home p =
+    record {
+      mode =
+          modeAfter m
+          (milestoneEvent m (highAt (c .«cruise_alt») (neg (p .z))) (nearHomeAt home) (nearGroundAt (neg (p .z))) (arrivedAt c s p) (moreOf s));
+      «wp_index» = legIn m (arrivedAt c s p) s;
+    }
 
 -- the milestone paragraph
 unfoldable pub milestoneOf : FlightSupervisor → Tick → FlightSupervisor

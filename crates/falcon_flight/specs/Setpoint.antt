@@ -7,7 +7,10 @@ use Rattle.relay_fsm.specs.declared.Mode.the-variants.{Disarmed, Armed, Takeoff
 use Rattle.relay_fsm.specs.Mode.{isMode}
 use Rattle.falcon_guidance.specs.declared.state.Point.{Point}
 use Rattle.falcon_guidance.specs.declared.state.Config.{Config}
+use Rattle.falcon_guidance.specs.declared.state.Horizontal.{Horizontal}
+use Rattle.falcon_guidance.specs.declared.state.Zones.{Zones}
 use Rattle.falcon_guidance.specs.declared.state.Tick.{Tick}
+use Rattle.falcon_guidance.specs.declared.state.Mission.{Mission as MissionState}
 use Rattle.falcon_failsafe.specs.declared.state.FlightSupervisor.{FlightSupervisor}
 use Rattle.falcon_guidance.specs.State.{pointOf}
 use Rattle.falcon_guidance.specs.Geometry.{distanceOf}
@@ -23,34 +26,36 @@ abbrev pub landingRadius : Float
 landingRadius = ofBits binary32 0x3f00_0000
 
 -- `landing`: in Land with a failed motor, or slow and over home
+abbrev pub landingIn : Mode → Bool → Float → Float → Bool
+landingIn m failed speed home = isMode m Land && (failed || lt speed landingSpeed && lt home landingRadius)
+
 unfoldable pub landingOf : FlightSupervisor → Tick → Bool
-landingOf f t =
-    isMode (f .fsm .mode) Land
-    && (t .«failed_motor» || lt (horizSpeedOf t) landingSpeed && lt (distanceOf (t .p) (f .config .home)) landingRadius)
+landingOf f t = landingIn (f .fsm .mode) (t .«failed_motor») (horizSpeedOf t) (distanceOf (t .p) (f .config .home))
 
 -- a point at the cruise height: `-self.cruise_alt`
 abbrev pub cruiseOver : Config → Float → Float → Point
 cruiseOver c x y = pointOf x y (neg (c .«cruise_alt»))
 
--- `mode → setpoint`
-abbrev pub setpointIn : Mode → FlightSupervisor → Tick → Point
-setpointIn Disarmed f t = t .p
-setpointIn Armed f t = t .p
-setpointIn Takeoff f t = cruiseOver (f .config) (f .hold .«hold_xy» .x) (f .hold .«hold_xy» .y)
-setpointIn Loiter f t = cruiseOver (f .config) (f .hold .«hold_xy» .x) (f .hold .«hold_xy» .y)
-setpointIn Mission f t = currentWaypointOf (f .config) (f .mission)
-setpointIn Land f t =
-    cond (t .«failed_motor») (cruiseOver (f .config) (t .p .x) (t .p .y)) (cruiseOver (f .config) (f .config .home .x) (f .config .home .y))
-setpointIn Rtl f t = cruiseOver (f .config) (f .config .home .x) (f .config .home .y)
-setpointIn Terminated f t = t .p
+-- `mode → setpoint`, from the mission, the hold point, the vehicle's point and whether a motor failed
+abbrev pub setpointAt : Mode → Config → MissionState → Horizontal → Point → Bool → Point
+setpointAt Disarmed c s hold p failed = p
+setpointAt Armed c s hold p failed = p
+setpointAt Takeoff c s hold p failed = cruiseOver c (hold .x) (hold .y)
+setpointAt Loiter c s hold p failed = cruiseOver c (hold .x) (hold .y)
+setpointAt Mission c s hold p failed = currentWaypointOf c s
+setpointAt Land c s hold p failed = cond failed (cruiseOver c (p .x) (p .y)) (cruiseOver c (c .home .x) (c .home .y))
+setpointAt Rtl c s hold p failed = cruiseOver c (c .home .x) (c .home .y)
+setpointAt Terminated c s hold p failed = p
 
 unfoldable pub setpointOf : FlightSupervisor → Tick → Point
-setpointOf f t = setpointIn (f .fsm .mode) f t
+setpointOf f t = setpointAt (f .fsm .mode) (f .config) (f .mission) (f .hold .«hold_xy») (t .p) (t .«failed_motor»)
 
 -- the setpoint after `avoid`, which is skipped while landing
+abbrev pub commandedIn : Zones → Bool → Point → Point → Point
+commandedIn z landing p sp = cond (ltb 0 (z .«zone_count») && not landing) (avoidOf z p sp) sp
+
 unfoldable pub commandedOf : FlightSupervisor → Tick → Point
-commandedOf f t =
-    cond (ltb 0 (f .zones .«zone_count») && not (landingOf f t)) (avoidOf (f .zones) (t .p) (setpointOf f t)) (setpointOf f t)
+commandedOf f t = commandedIn (f .zones) (landingOf f t) (t .p) (setpointOf f t)
 
 -- the modes that command motors off
 abbrev pub motorsOffOf : Mode → Bool

@@ -3,10 +3,15 @@
 use mathlib.Core.Bool.{Bool, true, false, cond}
 use mathlib.Core.List.{List, [], _∷_}
 use mathlib.Core.Option.{Option}
+use lib.Ieee.{Float}
 use Rattle.relay_fsm.specs.declared.Mode.{Mode}
 use Rattle.relay_fsm.specs.declared.Event.{Event}
 use Rattle.relay_batt.specs.Battery.{updateOf}
+use Rattle.falcon_guidance.specs.declared.state.Config.{Config}
+use Rattle.falcon_guidance.specs.declared.state.Zones.{Zones}
+use Rattle.falcon_guidance.specs.declared.state.Horizontal.{Horizontal}
 use Rattle.falcon_guidance.specs.declared.state.Tick.{Tick}
+use Rattle.falcon_guidance.specs.declared.state.Mission.{Mission as MissionState}
 use Rattle.falcon_failsafe.specs.declared.state.FlightSupervisor.{FlightSupervisor}
 use Rattle.falcon_flight.specs.declared.tick.TickAnswer.{TickAnswer}
 use Rattle.falcon_flight.specs.declared.tick.TickAnswer.the-variants.{MotorsOff, Setpoint}
@@ -15,8 +20,8 @@ use Rattle.falcon_failsafe.specs.State.{withBattery, withTable, withHold, withM
 use Rattle.falcon_failsafe.specs.Preflight.{updatePreflightOf, escTelemetryOf}
 use Rattle.falcon_failsafe.specs.Failsafe.{clearedOf, breachedOf, breachGives, runawayOf, runawayGives, windOf, windGives}
 use Rattle.falcon_flight.specs.Milestone.{milestoneOf, milestoneGives}
-use Rattle.falcon_guidance.specs.Hold.{heldOf}
-use Rattle.falcon_flight.specs.Setpoint.{landingOf, commandedOf, motorsOffOf}
+use Rattle.falcon_guidance.specs.Hold.{heldOf, horizSpeedOf}
+use Rattle.falcon_flight.specs.Setpoint.{landingIn, landingOf, setpointAt, commandedIn, commandedOf, motorsOffOf}
 
 -- the checks paragraph: from the battery BEFORE this tick's reading
 unfoldable pub checkedOf : FlightSupervisor → Tick → FlightSupervisor
@@ -52,6 +57,11 @@ unfoldable pub holdingOf : FlightSupervisor → Tick → FlightSupervisor
 holdingOf f t = withHold f (heldOf (f .hold) (f .fsm .mode) t)
 
 -- "The answer is motors off, or a setpoint with landing and rearm flags."
+unfoldable pub answerIn : Mode → Config → MissionState → Zones → Horizontal → Float → Bool → Tick → TickAnswer
+answerIn m c s z hold home off t =
+    let landing = landingIn m (t .«failed_motor») (horizSpeedOf t) home in
+    cond (motorsOffOf m) MotorsOff (Setpoint (commandedIn z landing (t .p) (setpointAt m c s hold (t .p) (t .«failed_motor»))) landing off)
+
 unfoldable pub answeredOf : FlightSupervisor → Tick → Ticked
 answeredOf f t =
     cond (motorsOffOf (f .fsm .mode)) (record { flight = withMotors f true; answer = MotorsOff })

@@ -3,49 +3,43 @@ ghost use mathlib.Core.Path.{_≡_};
 ghost use Prim.Native.Nat.{_+_};
 ghost use mathlib.Core.Bool.{cond};
 ghost use lib.Dec.{ltb};
-ghost use Rattle.falcon_flight.specs.Milestone.{heightOf, highOf, nearHomeOf, nearGroundOf, distance3Of, arrivedOf, advancedOf, milestoneOf};
-ghost use Rattle.relay_fsm.specs.Fsm.{onOf};
-ghost use Rattle.falcon_failsafe.specs.State.{withMode};
-ghost use Rattle.falcon_failsafe.specs.Failsafe.{inFlight};
+ghost use Rattle.falcon_flight.specs.Milestone.{highAt, nearHomeAt, nearGroundAt, distance3Of, arrivedAt, legIn, milestoneIn};
 use falcon_failsafe::failsafe::in_flight;
-use falcon_failsafe::state::FlightSupervisor;
-use falcon_guidance::geometry::distance;
+use falcon_failsafe::failsafe::on_if;
 use falcon_guidance::mission::current_waypoint;
 use falcon_guidance::state::Config;
+use falcon_guidance::state::Mission;
 use falcon_guidance::state::Point;
 use falcon_guidance::state::Tick;
 use relay_fsm::Event;
 use relay_fsm::Mode;
 use relay_math::sqrtf;
 
-// The height above the ground.
-fn height(t: Tick) -> f32
-    ensures { λ r. ⌜ r ≡ heightOf t ⌝ }
-{
-    -t.p.z
+// What the milestone changes: the mode and the active leg.
+pub(crate) struct Reached {
+    pub mode: Mode,
+    pub wp_index: u32,
 }
 
 // The climb is done.
-fn high(c: Config, t: Tick) -> bool
-    ensures { λ r. ⌜ r ≡ highOf c t ⌝ }
+fn high(cruise_alt: f32, height: f32) -> bool
+    ensures { λ r. ⌜ r ≡ highAt «cruise_alt» height ⌝ }
 {
-    height(t) > c.cruise_alt - Tick::ALTITUDE_MARGIN
+    height > cruise_alt - Tick::ALTITUDE_MARGIN
 }
 
 // Home is reached.
-fn near_home(c: Config, t: Tick) -> bool
-    ensures { λ r. ⌜ r ≡ nearHomeOf c t ⌝ }
+fn near_home(home: f32) -> bool
+    ensures { λ r. ⌜ r ≡ nearHomeAt home ⌝ }
 {
-    let p = t.p;
-    let home = c.home;
-    distance(p, home) < Tick::HOME_RADIUS
+    home < Tick::HOME_RADIUS
 }
 
 // The ground is reached.
-fn near_ground(t: Tick) -> bool
-    ensures { λ r. ⌜ r ≡ nearGroundOf t ⌝ }
+fn near_ground(height: f32) -> bool
+    ensures { λ r. ⌜ r ≡ nearGroundAt height ⌝ }
 {
-    height(t) < Tick::TOUCHDOWN_ALT
+    height < Tick::TOUCHDOWN_ALT
 }
 
 // The distance of two points.
@@ -59,13 +53,10 @@ fn distance3(p: Point, q: Point) -> f32
 }
 
 // The current waypoint is reached.
-fn arrived(f: FlightSupervisor, t: Tick) -> bool
-    ensures { λ r. ⌜ r ≡ arrivedOf f t ⌝ }
+fn arrived(c: Config, m: Mission, p: Point) -> bool
+    ensures { λ r. ⌜ r ≡ arrivedAt c m p ⌝ }
 {
-    let config = f.config;
-    let mission = f.mission;
-    let p = t.p;
-    distance3(p, current_waypoint(config, mission)) < Point::WAYPOINT_RADIUS
+    distance3(p, current_waypoint(c, m)) < Point::WAYPOINT_RADIUS
 }
 
 // A further leg follows.
@@ -78,17 +69,6 @@ fn more(index: u32, count: u32) -> bool
     false
 }
 
-// An event is handed to the mode machine.
-fn handed(f: FlightSupervisor, ev: Event) -> FlightSupervisor
-    ensures { λ r. ⌜ r ≡ withMode f (onOf (f .fsm .mode) ev inFlight) (f .«rtl_latched») ⌝ }
-{
-    let fsm = f.fsm;
-    let after = fsm.on(ev, in_flight());
-    let mut next = f;
-    next.fsm = after;
-    next
-}
-
 // The leg after this one, or this one where it is the last.
 fn leg_after(index: u32, count: u32) -> u32
     ensures { λ r. ⌜ r ≡ cond (ltb (index + 1) count) (index + 1) index ⌝ }
@@ -99,56 +79,46 @@ fn leg_after(index: u32, count: u32) -> u32
     index
 }
 
-// The next leg, or the return after the last.
-fn advanced(f: FlightSupervisor) -> FlightSupervisor
-    ensures { λ r. ⌜ r ≡ advancedOf f ⌝ }
+// The milestone of the mode, at this distance from home.
+pub(crate) fn milestone(mode: Mode, c: Config, m: Mission, home: f32, p: Point) -> Reached
+    ensures { λ r. ⌜ r ≡ milestoneIn mode c m home p ⌝ }
 {
-    let index = f.mission.wp_index;
-    let count = f.mission.wp_count;
-    if more(index, count) {
-        let leg = leg_after(index, count);
-        let mut next = f;
-        next.mission.wp_index = leg;
-        return next;
-    }
-    handed(f, Event::RequestRtl)
-}
-
-// The milestone of the mode.
-pub(crate) fn milestone(f: FlightSupervisor, t: Tick) -> FlightSupervisor
-    ensures { λ r. ⌜ r ≡ milestoneOf f t ⌝ }
-{
-    let config = f.config;
-    let fsm = f.fsm;
-    let mode = fsm.mode;
+    let wp_index = m.wp_index;
     match mode {
-        Mode::Takeoff => {
-            if high(config, t) {
-                return handed(f, Event::ReachedAltitude);
-            }
-            f
-        }
-        Mode::Rtl => {
-            if near_home(config, t) {
-                return handed(f, Event::ReachedHome);
-            }
-            f
-        }
-        Mode::Land => {
-            if near_ground(t) {
-                return handed(f, Event::Touchdown);
-            }
-            f
-        }
+        Mode::Takeoff => Reached {
+            mode: on_if(
+                mode,
+                high(c.cruise_alt, -p.z),
+                Event::ReachedAltitude,
+                in_flight(),
+            ),
+            wp_index,
+        },
+        Mode::Rtl => Reached {
+            mode: on_if(mode, near_home(home), Event::ReachedHome, in_flight()),
+            wp_index,
+        },
+        Mode::Land => Reached {
+            mode: on_if(mode, near_ground(-p.z), Event::Touchdown, in_flight()),
+            wp_index,
+        },
         Mode::Mission => {
-            if arrived(f, t) {
-                return advanced(f);
+            if arrived(c, m, p) {
+                return Reached {
+                    mode: on_if(
+                        mode,
+                        !more(wp_index, m.wp_count),
+                        Event::RequestRtl,
+                        in_flight(),
+                    ),
+                    wp_index: leg_after(wp_index, m.wp_count),
+                };
             }
-            f
+            Reached { mode, wp_index }
         }
-        Mode::Disarmed => f,
-        Mode::Armed => f,
-        Mode::Loiter => f,
-        Mode::Terminated => f,
+        Mode::Disarmed => Reached { mode, wp_index },
+        Mode::Armed => Reached { mode, wp_index },
+        Mode::Loiter => Reached { mode, wp_index },
+        Mode::Terminated => Reached { mode, wp_index },
     }
 }

@@ -1,27 +1,29 @@
 // The landing flag and the setpoint of each mode.
 ghost use mathlib.Core.Path.{_≡_};
-ghost use Rattle.falcon_flight.specs.Setpoint.{landingOf, cruiseOver, setpointOf, commandedOf, motorsOffOf};
-use falcon_failsafe::state::FlightSupervisor;
-use falcon_guidance::geometry::distance;
+ghost use Rattle.falcon_guidance.specs.Hold.{horizSpeedOf};
+ghost use Rattle.falcon_flight.specs.Setpoint.{landingIn, cruiseOver, setpointAt, commandedIn, motorsOffOf};
 use falcon_guidance::hold::horiz_speed;
 use falcon_guidance::mission::current_waypoint;
 use falcon_guidance::state::Config;
+use falcon_guidance::state::Horizontal;
+use falcon_guidance::state::Mission;
 use falcon_guidance::state::Point;
 use falcon_guidance::state::Tick;
+use falcon_guidance::state::Zones;
 use falcon_guidance::zones::avoid;
 use relay_fsm::Mode;
 
 // In Land with a failed motor, or slow and over home: the descent is on.
-pub(crate) fn landing(f: FlightSupervisor, t: Tick) -> bool
-    ensures { λ r. ⌜ r ≡ landingOf f t ⌝ }
+pub(crate) fn landing(mode: Mode, home: f32, t: Tick) -> bool
+    ensures { λ r. ⌜ r ≡ landingIn mode (t .«failed_motor») (horizSpeedOf t) home ⌝ }
 {
-    let fsm = f.fsm;
-    let mode = fsm.mode;
-    let home = f.config.home;
-    let p = t.p;
-    let settled = (horiz_speed(t) < Tick::LANDING_SPEED)
-        & (distance(p, home) < Tick::LANDING_RADIUS);
-    mode.is(Mode::Land) & (t.failed_motor | settled)
+    if mode.is(Mode::Land) {
+        if t.failed_motor {
+            return true;
+        }
+        return (horiz_speed(t) < Tick::LANDING_SPEED) & (home < Tick::LANDING_RADIUS);
+    }
+    false
 }
 
 // A point at the cruise height.
@@ -36,41 +38,39 @@ fn cruise_over(c: Config, x: f32, y: f32) -> Point
 }
 
 // The setpoint of the mode.
-fn setpoint(f: FlightSupervisor, t: Tick) -> Point
-    ensures { λ r. ⌜ r ≡ setpointOf f t ⌝ }
+pub(crate) fn setpoint(
+    mode: Mode,
+    c: Config,
+    m: Mission,
+    hold: Horizontal,
+    p: Point,
+    failed: bool,
+) -> Point
+    ensures { λ r. ⌜ r ≡ setpointAt mode c m hold p failed ⌝ }
 {
-    let config = f.config;
-    let fsm = f.fsm;
-    let mode = fsm.mode;
     match mode {
-        Mode::Disarmed => t.p,
-        Mode::Armed => t.p,
-        Mode::Takeoff => cruise_over(config, f.hold.hold_xy.x, f.hold.hold_xy.y),
-        Mode::Loiter => cruise_over(config, f.hold.hold_xy.x, f.hold.hold_xy.y),
-        Mode::Mission => {
-            let mission = f.mission;
-            current_waypoint(config, mission)
-        }
+        Mode::Disarmed => p,
+        Mode::Armed => p,
+        Mode::Takeoff => cruise_over(c, hold.x, hold.y),
+        Mode::Loiter => cruise_over(c, hold.x, hold.y),
+        Mode::Mission => current_waypoint(c, m),
         Mode::Land => {
-            if t.failed_motor {
-                return cruise_over(config, t.p.x, t.p.y);
+            if failed {
+                return cruise_over(c, p.x, p.y);
             }
-            cruise_over(config, f.config.home.x, f.config.home.y)
+            cruise_over(c, c.home.x, c.home.y)
         }
-        Mode::Rtl => cruise_over(config, f.config.home.x, f.config.home.y),
-        Mode::Terminated => t.p,
+        Mode::Rtl => cruise_over(c, c.home.x, c.home.y),
+        Mode::Terminated => p,
     }
 }
 
 // The setpoint, deflected around the keep-out zones unless landing.
-pub(crate) fn commanded(f: FlightSupervisor, t: Tick) -> Point
-    ensures { λ r. ⌜ r ≡ commandedOf f t ⌝ }
+pub(crate) fn commanded(z: Zones, landing: bool, p: Point, sp: Point) -> Point
+    ensures { λ r. ⌜ r ≡ commandedIn z landing p sp ⌝ }
 {
-    let sp = setpoint(f, t);
-    if (f.zones.zone_count > 0) & !landing(f, t) {
-        let zones = f.zones;
-        let p = t.p;
-        return avoid(zones, p, sp);
+    if (z.zone_count > 0) & !landing {
+        return avoid(z, p, sp);
     }
     sp
 }

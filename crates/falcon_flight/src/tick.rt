@@ -1,20 +1,27 @@
 // The tick: the paragraphs of the Rust's `step` in their order.
 ghost use mathlib.Core.Path.{_≡_};
-ghost use Rattle.falcon_flight.specs.Tick.{checkedOf, poweredOf, telemetryOf, sensedOf, afterMilestone, holdingOf, answeredOf, tickOf};
+ghost use Rattle.falcon_flight.specs.Tick.{answerIn, tickOf};
 use crate::milestone::milestone;
 use crate::setpoint::commanded;
 use crate::setpoint::landing;
 use crate::setpoint::motors_off;
-use falcon_failsafe::failsafe::breached;
+use crate::setpoint::setpoint;
 use falcon_failsafe::failsafe::cleared;
-use falcon_failsafe::failsafe::runaway;
-use falcon_failsafe::failsafe::wind;
+use falcon_failsafe::failsafe::failsafes;
 use falcon_failsafe::preflight::esc_telemetry;
 use falcon_failsafe::preflight::update_preflight;
+use falcon_failsafe::state::FailsafeState;
 use falcon_failsafe::state::FlightSupervisor;
+use falcon_guidance::geometry::distance;
 use falcon_guidance::hold::held;
+use falcon_guidance::state::Config;
+use falcon_guidance::state::Horizontal;
+use falcon_guidance::state::Mission;
 use falcon_guidance::state::Point;
 use falcon_guidance::state::Tick;
+use falcon_guidance::state::Zones;
+use relay_fsm::FlightFsm;
+use relay_fsm::Mode;
 
 // What a tick answers.
 pub enum TickAnswer {
@@ -33,92 +40,29 @@ pub struct Ticked {
     pub answer: TickAnswer,
 }
 
-// The checks, from the battery before this tick's reading.
-fn checked(f: FlightSupervisor, t: Tick) -> FlightSupervisor
-    ensures { λ r. ⌜ r ≡ checkedOf f t ⌝ }
+// Motors off, or the setpoint; the motors were off before this tick or not.
+fn answered(
+    mode: Mode,
+    c: Config,
+    m: Mission,
+    z: Zones,
+    hold: Horizontal,
+    home: f32,
+    off: bool,
+    t: Tick,
+) -> TickAnswer
+    ensures { λ r. ⌜ r ≡ answerIn mode c m z hold home off t ⌝ }
 {
-    let table = f.check_table;
-    let config = f.config;
-    let battery = f.battery;
-    let updated = update_preflight(table, config, battery, f.rtl_latched, t);
-    let mut next = f;
-    next.check_table = updated;
-    next
-}
-
-// The battery reading.
-fn powered(f: FlightSupervisor, t: Tick) -> FlightSupervisor
-    ensures { λ r. ⌜ r ≡ poweredOf f t ⌝ }
-{
-    let battery = f.battery;
-    let reading = t.reading;
-    let updated = battery.update(t.dt, reading);
-    let mut next = f;
-    next.battery = updated;
-    next
-}
-
-// The motor telemetry.
-fn telemetry(f: FlightSupervisor, t: Tick) -> FlightSupervisor
-    ensures { λ r. ⌜ r ≡ telemetryOf f t ⌝ }
-{
-    let table = f.check_table;
-    let updated = esc_telemetry(table, t.motor_rpm);
-    let mut next = f;
-    next.check_table = updated;
-    next
-}
-
-// What comes before the first event.
-fn sensed(f: FlightSupervisor, t: Tick) -> FlightSupervisor
-    ensures { λ r. ⌜ r ≡ sensedOf f t ⌝ }
-{
-    telemetry(powered(checked(cleared(f), t), t), t)
-}
-
-// The failsafes and the milestone.
-fn moded(f: FlightSupervisor, t: Tick) -> FlightSupervisor
-    ensures { λ r. ⌜ r ≡ afterMilestone f t ⌝ }
-{
-    milestone(wind(runaway(breached(sensed(f, t), t), t), t), t)
-}
-
-// The hold point.
-fn holding(f: FlightSupervisor, t: Tick) -> FlightSupervisor
-    ensures { λ r. ⌜ r ≡ holdingOf f t ⌝ }
-{
-    let fsm = f.fsm;
-    let mode = fsm.mode;
-    let hold = f.hold;
-    let after = held(hold, mode, t);
-    let mut next = f;
-    next.hold = after;
-    next
-}
-
-// Motors off, or the setpoint.
-fn answered(f: FlightSupervisor, t: Tick) -> Ticked
-    ensures { λ r. ⌜ r ≡ answeredOf f t ⌝ }
-{
-    let fsm = f.fsm;
-    let mode = fsm.mode;
-    let mut flight = f;
     if motors_off(mode) {
-        flight.motors_were_off = true;
-        return Ticked {
-            flight,
-            answer: TickAnswer::MotorsOff,
-        };
+        return TickAnswer::MotorsOff;
     }
-    let ned = commanded(f, t);
-    flight.motors_were_off = false;
-    Ticked {
-        flight,
-        answer: TickAnswer::Setpoint {
-            ned,
-            landing: landing(f, t),
-            rearm: f.motors_were_off,
-        },
+    let p = t.p;
+    let descent = landing(mode, home, t);
+    let sp = setpoint(mode, c, m, hold, p, t.failed_motor);
+    TickAnswer::Setpoint {
+        ned: commanded(z, descent, p, sp),
+        landing: descent,
+        rearm: off,
     }
 }
 
@@ -126,5 +70,59 @@ fn answered(f: FlightSupervisor, t: Tick) -> Ticked
 pub fn tick(f: FlightSupervisor, t: Tick) -> Ticked
     ensures { λ r. ⌜ r ≡ tickOf f t ⌝ }
 {
-    answered(holding(moded(f, t), t), t)
+    let config = f.config;
+    let point = t.p;
+    let center = f.config.home;
+    let home = distance(point, center);
+    let outside = home > f.config.fence_radius;
+    let fsm = f.fsm;
+    let mode = fsm.mode;
+    let latched = cleared(mode, f.rtl_latched);
+    let before = f.battery;
+    let reading = t.reading;
+    let battery = before.update(t.dt, reading);
+    let table = f.check_table;
+    let checked = update_preflight(table, config, before, latched, outside, t);
+    let counts = f.counts;
+    let guarded = failsafes(
+        FailsafeState {
+            mode,
+            counts,
+            rtl_latched: latched,
+        },
+        battery,
+        outside,
+        t,
+    );
+    let mission = f.mission;
+    let guarded_mode = guarded.mode;
+    let reached = milestone(guarded_mode, config, mission, home, point);
+    let mode = reached.mode;
+    let held_before = f.hold;
+    let hold = held(held_before, mode, t);
+    let guarded_counts = guarded.counts;
+    let mut flight = f;
+    let after = FlightFsm { mode };
+    flight.fsm = after;
+    flight.battery = battery;
+    flight.mission.wp_index = reached.wp_index;
+    flight.hold = hold;
+    flight.counts = guarded_counts;
+    flight.check_table = esc_telemetry(checked, t.motor_rpm);
+    flight.rtl_latched = guarded.rtl_latched;
+    flight.motors_were_off = motors_off(mode);
+    let legs = flight.mission;
+    let zones = f.zones;
+    let hold_xy = hold.hold_xy;
+    let answer = answered(
+        mode,
+        config,
+        legs,
+        zones,
+        hold_xy,
+        home,
+        f.motors_were_off,
+        t,
+    );
+    Ticked { flight, answer }
 }

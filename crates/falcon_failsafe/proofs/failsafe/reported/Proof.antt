@@ -1,35 +1,20 @@
-use Rattle.falcon_failsafe.specs.Failsafe.{reportedOf}
+use Rattle.falcon_failsafe.proofs.Events.{reported-is}
 use borrow.Author.Needs.{needs}
 use Rattle.falcon_failsafe.proofs.failsafe.reported.Statement.{statement}
 use Rattle.falcon_failsafe.proofs.failsafe.reported.Tie as tie
 
-is-airborne-requires : tie.Need-is-airborne-requires
-is-airborne-requires c κs = search needs
-
-is-requires : tie.Need-is-requires
-is-requires c κs = search needs
+motor-lost-requires : tie.Need-motor-lost-requires
+motor-lost-requires c κs = search needs
 
 without-position-requires : tie.Need-without-position-requires
 without-position-requires c κs = search needs
 
-on-requires : tie.Need-on-requires
-on-requires c κs = search needs
+on-if-requires : tie.Need-on-if-requires
+on-if-requires c κs = search needs
 
 returns : tie.Need-returns
-unfolding reportedOf
-returns c = simp (c .on .ensures, c .before .without-position .ensures, simp (c .before .before .before .is .ensures, c .before .before .before .before .is-airborne .ensures) at (c .before .before .if1 .taken))
-
-returns-2 : tie.Need-returns-2
-unfolding reportedOf
-returns-2 c = simp (simp (c .before .is .ensures, c .before .before .is-airborne .ensures) at (c .if1 .left))
+returns c = simp (c .before .on-if .ensures, c .before .before .without-position .ensures) (reported-is (c .before .before .before .before .before .args .f) _ (c .before .before .before .motor-lost .result) (c .before .before .before .motor-lost .ensures))
 
 pub reported-spec : {M : Type 1} → statement M
 reported-spec =
-    tie.close
-    (tie.spec
-    is-airborne-requires
-    is-requires
-    without-position-requires
-    on-requires
-    returns
-    returns-2)
+    tie.close (tie.spec motor-lost-requires without-position-requires on-if-requires returns)

@@ -1,4 +1,5 @@
-use Rattle.falcon_failsafe.specs.Failsafe.{windOf, windGives, windCounted, windEnough}
+use Rattle.falcon_failsafe.proofs.Events.{failsafed-if}
+use Rattle.falcon_failsafe.specs.Failsafe.{windCountOf, windEnough, windFails, withWind, windIn}
 use borrow.Author.Needs.{needs}
 use Rattle.falcon_failsafe.proofs.failsafe.wind.Statement.{statement}
 use Rattle.falcon_failsafe.proofs.failsafe.wind.Tie as tie
@@ -9,11 +10,8 @@ is-airborne-requires c κs = search needs
 is-requires : tie.Need-is-requires
 is-requires c κs = search needs
 
-gusty-requires : tie.Need-gusty-requires
-gusty-requires c κs = search needs
-
-saturating-add-requires : tie.Need-saturating-add-requires
-saturating-add-requires c κs = search needs
+counted-requires : tie.Need-counted-requires
+counted-requires c κs = search needs
 
 rank-requires : tie.Need-rank-requires
 rank-requires c κs = search needs
@@ -21,20 +19,15 @@ rank-requires c κs = search needs
 in-flight-requires : tie.Need-in-flight-requires
 in-flight-requires c κs = search needs
 
-on-requires : tie.Need-on-requires
-on-requires c κs = search needs
+on-if-requires : tie.Need-on-if-requires
+on-if-requires c κs = search needs
 
 returns : tie.Need-returns
-unfolding windOf windGives windCounted windEnough
-returns c = simp (c .on .ensures, c .before .in-flight .ensures, simp (c .before .before .before .rank .ensures, c .before .before .before .before .before .saturating-add .ensures, c .before .before .before .before .before .before .before .gusty .ensures, c .before .before .before .before .before .before .before .before .is .ensures, c .before .before .before .before .before .before .before .before .before .is-airborne .ensures) at (c .before .before .if2 .taken), c .before .before .before .before .before .saturating-add .ensures, simp (c .before .before .before .before .before .before .before .gusty .ensures, c .before .before .before .before .before .before .before .before .is .ensures, c .before .before .before .before .before .before .before .before .before .is-airborne .ensures) at (c .before .before .before .before .before .before .if1 .taken), c .before .before .before .before .before .before .before .gusty .ensures, c .before .before .before .before .before .before .before .before .is .ensures, c .before .before .before .before .before .before .before .before .before .is-airborne .ensures)
-
-returns-2 : tie.Need-returns-2
-unfolding windOf windGives windCounted windEnough
-returns-2 c = simp (simp (c .before .rank .ensures, c .before .before .before .saturating-add .ensures, c .before .before .before .before .before .gusty .ensures, c .before .before .before .before .before .before .is .ensures, c .before .before .before .before .before .before .before .is-airborne .ensures) at (c .if2 .left), c .before .before .before .saturating-add .ensures, simp (c .before .before .before .before .before .gusty .ensures, c .before .before .before .before .before .before .is .ensures, c .before .before .before .before .before .before .before .is-airborne .ensures) at (c .before .before .before .before .if1 .taken), c .before .before .before .before .before .before .is .ensures, c .before .before .before .before .before .before .before .is-airborne .ensures)
-
-returns-3 : tie.Need-returns-3
-unfolding windOf windGives windCounted windEnough
-returns-3 c = simp (simp (c .before .before .gusty .ensures, c .before .before .before .is .ensures, c .before .before .before .before .is-airborne .ensures) at (c .before .if1 .left))
+unfolding windIn windEnough
+returns c =
+    let s = c .before .before .before .before .before .before .before .args .s in
+    let n = windCountOf (s .mode) (c .before .before .before .before .before .before .before .args .gusty) (s .counts .«wind_count») in
+    simp (c .before .on-if .ensures, c .before .before .in-flight .ensures, c .before .before .before .rank .ensures, c .before .before .before .before .counted .ensures, c .before .before .before .before .before .is .ensures, c .before .before .before .before .before .before .is-airborne .ensures) (failsafed-if (withWind s n) (windFails (s .mode) (c .before .before .before .before .before .before .before .args .gusty) (windEnough n)))
 
 pub wind-spec : {M : Type 1} → statement M
 wind-spec =
@@ -42,11 +35,8 @@ wind-spec =
     (tie.spec
     is-airborne-requires
     is-requires
-    gusty-requires
-    saturating-add-requires
+    counted-requires
     rank-requires
     in-flight-requires
-    on-requires
-    returns
-    returns-2
-    returns-3)
+    on-if-requires
+    returns)

@@ -1,4 +1,3 @@
-use Rattle.falcon_failsafe.specs.Preflight.{integrityRowsOf}
 use borrow.Author.Needs.{needs}
 use Rattle.falcon_failsafe.proofs.preflight.integrity_rows.Statement.{statement}
 use Rattle.falcon_failsafe.proofs.preflight.integrity_rows.Tie as tie
@@ -13,7 +12,6 @@ set-requires-3 : tie.Need-set-requires-3
 set-requires-3 c κs = search needs
 
 returns : tie.Need-returns
-unfolding integrityRowsOf
 returns c = simp (c .set3 .ensures, c .before .before .set2 .ensures, c .before .before .before .before .set .ensures)
 
 pub integrity-rows-spec : {M : Type 1} → statement M

@@ -1,4 +1,3 @@
-use Rattle.falcon_failsafe.specs.Preflight.{readinessRowsOf}
 use borrow.Author.Needs.{needs}
 use Rattle.falcon_failsafe.proofs.preflight.readiness_rows.Statement.{statement}
 use Rattle.falcon_failsafe.proofs.preflight.readiness_rows.Tie as tie
@@ -15,9 +14,6 @@ set-requires-2 c κs = search needs
 set-requires-3 : tie.Need-set-requires-3
 set-requires-3 c κs = search needs
 
-outside-geofence-requires : tie.Need-outside-geofence-requires
-outside-geofence-requires c κs = search needs
-
 set-requires-4 : tie.Need-set-requires-4
 set-requires-4 c κs = search needs
 
@@ -25,8 +21,7 @@ set-requires-5 : tie.Need-set-requires-5
 set-requires-5 c κs = search needs
 
 returns : tie.Need-returns
-unfolding readinessRowsOf
-returns c = simp (c .set5 .ensures, c .before .before .before .set4 .ensures, c .before .before .before .before .outside-geofence .ensures, c .before .before .before .before .before .set3 .ensures, c .before .before .before .before .before .before .before .set2 .ensures, c .before .before .before .before .before .before .before .before .before .before .set .ensures, c .before .before .before .before .before .before .before .before .before .before .before .geofence-sane .ensures)
+returns c = simp (c .set5 .ensures, c .before .before .before .set4 .ensures, c .before .before .before .before .set3 .ensures, c .before .before .before .before .before .set2 .ensures, c .before .before .before .before .before .before .before .before .set .ensures, c .before .before .before .before .before .before .before .before .before .geofence-sane .ensures)
 
 pub readiness-rows-spec : {M : Type 1} → statement M
 readiness-rows-spec =
@@ -36,7 +31,6 @@ readiness-rows-spec =
     set-requires
     set-requires-2
     set-requires-3
-    outside-geofence-requires
     set-requires-4
     set-requires-5
     returns)

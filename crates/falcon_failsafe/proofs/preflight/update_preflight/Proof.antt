@@ -1,4 +1,4 @@
-use Rattle.falcon_failsafe.specs.Preflight.{updatePreflightOf}
+use Rattle.falcon_failsafe.specs.Preflight.{updatePreflightIn, integrityRowsOf}
 use borrow.Author.Needs.{needs}
 use Rattle.falcon_failsafe.proofs.preflight.update_preflight.Statement.{statement}
 use Rattle.falcon_failsafe.proofs.preflight.update_preflight.Tie as tie
@@ -13,7 +13,7 @@ readiness-rows-requires : tie.Need-readiness-rows-requires
 readiness-rows-requires c κs = search needs
 
 returns : tie.Need-returns
-unfolding updatePreflightOf
+unfolding updatePreflightIn integrityRowsOf
 returns c = simp (c .readiness-rows .ensures, c .before .integrity-rows .ensures, c .before .before .nav-rows .ensures)
 
 pub update-preflight-spec : {M : Type 1} → statement M

@@ -1,4 +1,3 @@
-use Rattle.falcon_flight.specs.Milestone.{arrivedOf}
 use borrow.Author.Needs.{needs}
 use Rattle.falcon_flight.proofs.milestone.arrived.Statement.{statement}
 use Rattle.falcon_flight.proofs.milestone.arrived.Tie as tie
@@ -10,7 +9,6 @@ distance3-requires : tie.Need-distance3-requires
 distance3-requires c κs = search needs
 
 returns : tie.Need-returns
-unfolding arrivedOf
 returns c = simp (c .distance3 .ensures, c .before .current-waypoint .ensures)
 
 pub arrived-spec : {M : Type 1} → statement M

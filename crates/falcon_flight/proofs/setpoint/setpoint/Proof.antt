@@ -1,4 +1,3 @@
-use Rattle.falcon_flight.specs.Setpoint.{setpointOf}
 use borrow.Author.Needs.{needs}
 use Rattle.falcon_flight.proofs.setpoint.setpoint.Statement.{statement}
 use Rattle.falcon_flight.proofs.setpoint.setpoint.Tie as tie
@@ -34,7 +33,6 @@ cruise-over-requires-3 : tie.Need-cruise-over-requires-3
 cruise-over-requires-3 c κs = search needs
 
 returns : tie.Need-returns
-unfolding setpointOf
 returns c = simp (c .cruise-over3 .ensures, c .before .if1 .taken, c .before .before .enum-told6 .given .1)
 
 cruise-over-requires-4 : tie.Need-cruise-over-requires-4
@@ -50,36 +48,28 @@ enum-told-8 : tie.Need-enum-told-8
 enum-told-8 c = search needs
 
 returns-2 : tie.Need-returns-2
-unfolding setpointOf
-returns-2 c = simp (c .before .enum-told .given .1)
+returns-2 c = simp (c .enum-told .given .1)
 
 returns-3 : tie.Need-returns-3
-unfolding setpointOf
-returns-3 c = simp (c .before .enum-told2 .given .1)
+returns-3 c = simp (c .enum-told2 .given .1)
 
 returns-4 : tie.Need-returns-4
-unfolding setpointOf
 returns-4 c = simp (c .cruise-over .ensures, c .before .enum-told3 .given .1)
 
 returns-5 : tie.Need-returns-5
-unfolding setpointOf
 returns-5 c = simp (c .cruise-over2 .ensures, c .before .enum-told4 .given .1)
 
 returns-6 : tie.Need-returns-6
-unfolding setpointOf
-returns-6 c = simp (c .current-waypoint .ensures, c .before .before .enum-told5 .given .1)
+returns-6 c = simp (c .current-waypoint .ensures, c .before .enum-told5 .given .1)
 
 returns-7 : tie.Need-returns-7
-unfolding setpointOf
 returns-7 c = simp (c .cruise-over4 .ensures, c .before .if1 .left, c .before .before .enum-told6 .given .1)
 
 returns-8 : tie.Need-returns-8
-unfolding setpointOf
 returns-8 c = simp (c .cruise-over5 .ensures, c .before .enum-told7 .given .1)
 
 returns-9 : tie.Need-returns-9
-unfolding setpointOf
-returns-9 c = simp (c .before .enum-told8 .given .1)
+returns-9 c = simp (c .enum-told8 .given .1)
 
 pub setpoint-spec : {M : Type 1} → statement M
 setpoint-spec =

@@ -1,0 +1,134 @@
+-- The tick over its parts: each paragraph leaves the flight with a few parts changed, and the parts in their order are the tick.
+use mathlib.Core.Bool.{Bool, true, false}
+use mathlib.Core.Path.{_≡_, refl, sym, ap, _∙_}
+use lib.Ieee.{Float, lt}
+use Rattle.relay_batt.specs.declared.battery.Battery.{Battery}
+use Rattle.relay_batt.specs.Battery.{updateOf}
+use Rattle.relay_preflight.specs.declared.CheckTable.{CheckTable}
+use Rattle.falcon_guidance.specs.declared.state.Hold.{Hold}
+use Rattle.falcon_guidance.specs.declared.state.Mission.{Mission}
+use Rattle.falcon_guidance.specs.declared.state.Tick.{Tick}
+use Rattle.falcon_guidance.specs.Geometry.{distanceOf}
+use Rattle.falcon_guidance.specs.Hold.{heldOf}
+use Rattle.falcon_failsafe.specs.declared.state.FailsafeState.{FailsafeState}
+use Rattle.falcon_failsafe.specs.declared.state.FlightSupervisor.{FlightSupervisor}
+use Rattle.falcon_failsafe.specs.State.{failsafeStateOf, withFailsafes, withMode, withMission, withHold, withMotors, withBattery, withTable}
+use Rattle.falcon_failsafe.specs.Preflight.{outsideGeofenceOf, readinessRowsOf, updatePreflightIn, updatePreflightOf, escTelemetryOf}
+use Rattle.falcon_failsafe.specs.Failsafe.{clearedLatch, clearedOf, breachOf, breachGives, breachedIn, breachedOf}
+use Rattle.falcon_failsafe.specs.Failsafe.{tiltedOf, runawayCounted, runawayGives, runawayIn, runawayOf}
+use Rattle.falcon_failsafe.specs.Failsafe.{gustyOf, windCounted, windGives, windIn, windOf, failsafesIn}
+use Rattle.falcon_flight.specs.declared.milestone.Reached.{Reached}
+use Rattle.falcon_flight.specs.declared.tick.Ticked.{Ticked}
+use Rattle.falcon_flight.specs.Milestone.{heightOf, highOf, nearHomeOf, nearGroundOf, arrivedOf, legOf, milestoneGives, milestoneIn, milestoneOf}
+use Rattle.falcon_flight.specs.Setpoint.{landingOf, setpointOf, commandedOf, motorsOffOf}
+use Rattle.falcon_flight.specs.Tick.{checkedOf, poweredOf, telemetryOf, sensedOf, afterBreach, afterRunaway, afterWind, afterMilestone}
+use Rattle.falcon_flight.specs.Tick.{holdingOf, answerIn, answeredOf, tickOf}
+
+module _ (f : FlightSupervisor) (t : Tick) where
+  breached-parts : breachedOf f t ≡ withFailsafes f (breachedIn (failsafeStateOf f) (breachOf f t) (f .battery .state .critical))
+  unfolding breachedOf breachGives breachedIn
+  breached-parts = refl
+
+  runaway-parts : runawayOf f t ≡ withFailsafes f (runawayIn (failsafeStateOf f) (tiltedOf t))
+  unfolding runawayOf runawayCounted runawayGives runawayIn
+  runaway-parts = refl
+
+  wind-parts : windOf f t ≡ withFailsafes f (windIn (failsafeStateOf f) (gustyOf t))
+  unfolding windOf windCounted windGives windIn
+  wind-parts = refl
+
+module _ (f : FlightSupervisor) (t : Tick) where
+  -- the three failsafe paragraphs
+  failsafes-parts :
+      windOf (runawayOf (breachedOf f t) t) t ≡ withFailsafes f (failsafesIn (failsafeStateOf f) (f .battery) (outsideGeofenceOf (f .config) t) t)
+  unfolding failsafesIn breachOf
+  failsafes-parts =
+      let b = breachedIn (failsafeStateOf f) (breachOf f t) (f .battery .state .critical) in
+      ap (λ (g : FlightSupervisor). windOf (runawayOf g t) t) (breached-parts f t)
+      ∙ (ap (λ (g : FlightSupervisor). windOf g t) (runaway-parts (withFailsafes f b) t)
+      ∙ wind-parts (withFailsafes f (runawayIn b (tiltedOf t))) t)
+
+  -- the mission with this leg
+  abbrev leg : Reached → Mission
+  leg r = record { waypoints = f .mission .waypoints; «wp_count» = f .mission .«wp_count»; «wp_index» = r .«wp_index» }
+
+  milestone-parts :
+      milestoneOf f t
+      ≡ let r = milestoneIn (f .fsm .mode) (f .config) (f .mission) (distanceOf (t .p) (f .config .home)) (t .p) in
+      withMode (withMission f (leg r)) (r .mode) (f .«rtl_latched»)
+  unfolding milestoneOf milestoneGives legOf highOf nearHomeOf nearGroundOf heightOf arrivedOf milestoneIn
+  milestone-parts = refl
+
+  answered-by :
+      (off : Bool)
+      → motorsOffOf (f .fsm .mode) ≡ off
+      → answeredOf f t
+      ≡ record {
+        flight = withMotors f off;
+        answer =
+            answerIn (f .fsm .mode) (f .config) (f .mission) (f .zones) (f .hold .«hold_xy») (distanceOf (t .p) (f .config .home)) (f .«motors_were_off») t;
+      }
+  unfolding answeredOf answerIn commandedOf landingOf setpointOf
+  answered-by true e = rw e
+  answered-by false e = rw e
+
+-- the flight after the paragraphs before the first event, after the failsafes, after the milestone, and after the hold
+module _ (f : FlightSupervisor) (t : Tick) where
+  abbrev home : Float
+  home = distanceOf (t .p) (f .config .home)
+
+  abbrev outside : Bool
+  outside = lt (f .config .«fence_radius») home
+
+  abbrev latched : Bool
+  latched = clearedLatch (f .fsm .mode) (f .«rtl_latched»)
+
+  abbrev battery : Battery
+  battery = updateOf (f .battery) (t .dt) (t .reading)
+
+  abbrev table : CheckTable
+  table = escTelemetryOf (updatePreflightIn (f .«check_table») (f .config) (f .battery) latched outside t) (t .«motor_rpm»)
+
+  abbrev sensed : FlightSupervisor
+  sensed = withBattery (withTable (withMode f (f .fsm .mode) latched) table) battery
+
+  abbrev guarded : FailsafeState
+  guarded = failsafesIn (failsafeStateOf sensed) battery outside t
+
+  abbrev reached : Reached
+  reached = milestoneIn (guarded .mode) (f .config) (f .mission) home (t .p)
+
+  abbrev hold : Hold
+  hold = heldOf (f .hold) (reached .mode) t
+
+  abbrev mission : Mission
+  mission = leg f t reached
+
+  abbrev flight : FlightSupervisor
+  flight = withHold (withMode (withMission (withFailsafes sensed guarded) mission) (reached .mode) (guarded .«rtl_latched»)) hold
+
+  sensed-parts : sensedOf f t ≡ sensed
+  unfolding sensedOf telemetryOf poweredOf checkedOf clearedOf updatePreflightOf readinessRowsOf updatePreflightIn outsideGeofenceOf
+  sensed-parts = refl
+
+  guarded-parts : windOf (runawayOf (breachedOf sensed t) t) t ≡ withFailsafes sensed guarded
+  unfolding outsideGeofenceOf
+  guarded-parts = failsafes-parts sensed t
+
+  held-parts : holdingOf (milestoneOf (withFailsafes sensed guarded) t) t ≡ flight
+  unfolding holdingOf
+  held-parts = ap (λ (g : FlightSupervisor). withHold g (heldOf (g .hold) (g .fsm .mode) t)) (milestone-parts (withFailsafes sensed guarded) t)
+
+  pub assembled :
+      _≡_ {A = Ticked}
+      (record {
+        flight = withMotors flight (motorsOffOf (reached .mode));
+        answer = answerIn (reached .mode) (f .config) mission (f .zones) (hold .«hold_xy») home (f .«motors_were_off») t;
+      })
+      (tickOf f t)
+  unfolding tickOf afterMilestone afterWind afterRunaway afterBreach
+  assembled =
+      sym
+      (ap (λ (g : FlightSupervisor). answeredOf (holdingOf (milestoneOf (windOf (runawayOf (breachedOf g t) t) t) t) t) t) sensed-parts
+      ∙ (ap (λ (g : FlightSupervisor). answeredOf (holdingOf (milestoneOf g t) t) t) guarded-parts
+      ∙ (ap (λ (g : FlightSupervisor). answeredOf g t) held-parts ∙ answered-by flight t _ refl)))
