@@ -1,0 +1,148 @@
+// The tick with no text: a day flown again and again, and the sum of its answers. `harness/bench tick` times it beside the Rust's `step`.
+use falcon_core::state::Supervisor;
+use falcon_failsafe::state::FlightSupervisor;
+use falcon_failsafe::state::Opening;
+use falcon_flight::tick::TickAnswer;
+use falcon_flight::tick::tick;
+use falcon_guidance::state::Point;
+use falcon_guidance::state::Tick;
+use libc::STDOUT_FILENO;
+use relay_batt::Reading;
+use relay_fsm::Event;
+use relay_math::to_bits;
+
+// The days of a run, and the ticks of each part of a day: in Takeoff and Loiter, in Mission, and on the way home.
+const DAYS: u32 = 500;
+
+const PART: u32 = 1_000;
+
+// Where the shuttle is, tick by tick.
+const NORTH: [f32; 16] = [
+    0.0, 1.5, 3.0, 4.5, 6.0, 7.5, 9.0, 10.5, 12.0, 13.5, 15.0, 16.5, 18.0, 19.5, 20.0, 2.0,
+];
+
+const EAST: [f32; 8] = [0.0, 0.5, 1.0, 6.5, 7.0, 7.5, -2.0, -1.0];
+
+// The sum so far, which wraps at 2^32, with one more number.
+fn added(sum: u64, n: u32) -> u64 {
+    sum % 4_294_967_296 + n as u64
+}
+
+// The sum with the numbers of an answer.
+fn summed(sum: u64, answer: TickAnswer) -> u64 {
+    match answer {
+        TickAnswer::MotorsOff => added(sum, 1),
+        TickAnswer::Setpoint {
+            ned,
+            landing,
+            rearm,
+        } => {
+            let mut s = added(sum, to_bits(ned.x));
+            s = added(s, to_bits(ned.y));
+            s = added(s, to_bits(ned.z));
+            if landing {
+                s = added(s, 2);
+            }
+            if rearm {
+                s = added(s, 4);
+            }
+            s
+        }
+    }
+}
+
+fn tick_at(i: u32) -> Tick {
+    let n = (i % 16) as usize;
+    let e = (i / 16 % 8) as usize;
+    Tick {
+        dt: 0.02,
+        p: Point::new(NORTH[n], EAST[e], -10.0),
+        v: Point::new(0.5, -0.25, 0.0),
+        tilt: 0.1,
+        tilt_uncertainty: 0.01,
+        max_motor: 0.6,
+        nav_compromised: false,
+        gnss_diverged: false,
+        failed_motor: false,
+        motor_rpm: true,
+        reading: Reading::VoltsAmps {
+            volts: 15.2,
+            amps: 12.0,
+        },
+    }
+}
+
+// The flight and the sum after some ticks.
+struct Flown {
+    flight: FlightSupervisor,
+    sum: u64,
+}
+
+fn fly(f: FlightSupervisor, sum: u64) -> Flown {
+    let mut flight = f;
+    let mut s = sum;
+    let mut i = 0;
+    while i < PART {
+        let ticked = tick(flight, tick_at(i));
+        flight = ticked.flight;
+        let answer = ticked.answer;
+        s = summed(s, answer);
+        i += 1;
+    }
+    Flown { flight, sum: s }
+}
+
+// The flight after a command.
+fn commanded(f: FlightSupervisor, ev: Event) -> FlightSupervisor {
+    let s = Supervisor {
+        flight: f,
+        opened: true,
+        report_due: false,
+    };
+    let answered = s.command(ev, true, true);
+    let after = answered.supervisor;
+    after.flight
+}
+
+// Opened, with two points and a zone, armed and taking off.
+fn started() -> FlightSupervisor {
+    let s = Supervisor::new();
+    let opened = s.opening(Opening {
+        home: Point::origin(),
+        fence_radius: 100.0,
+        cruise_alt: 10.0,
+        low_batt_v: 14.0,
+        required: 0,
+        passed: 0,
+        calibration_configured: true,
+    });
+    let points = [15.0f32, 1.0, -10.0, 0.0, 7.5, -10.0];
+    let s = opened.supervisor;
+    let listed = s.set_mission_waypoints(&points);
+    let zone = [9.0f32, 3.0, 0.0, 2.0];
+    let s = listed.supervisor;
+    let zoned = s.set_keepout_zones(&zone);
+    let s = zoned.supervisor;
+    let flight = s.flight;
+    commanded(commanded(flight, Event::Arm), Event::RequestTakeoff)
+}
+
+fn day(sum: u64) -> u64 {
+    let out = fly(started(), sum);
+    let flight = out.flight;
+    let legs = fly(commanded(flight, Event::RequestMission), out.sum);
+    let flight = legs.flight;
+    let back = fly(commanded(flight, Event::RequestRtl), legs.sum);
+    back.sum
+}
+
+fn main() {
+    let mut sum = 0;
+    let mut days = 0;
+    while days < DAYS {
+        sum = day(sum);
+        days += 1;
+    }
+    io::print_decimal(STDOUT_FILENO, sum % 4_294_967_296);
+    io::write_all(STDOUT_FILENO, b"\n");
+}
