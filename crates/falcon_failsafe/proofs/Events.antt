@@ -1,15 +1,16 @@
--- What an event does that is given by a test.
+-- What an event does that is given by a test, and when a breach gives one.
 use mathlib.Core.Bool.{Bool, true, false, cond, _||_}
 use mathlib.Core.Option.{none, some}
 use mathlib.Core.Path.{_≡_, refl}
 use Rattle.relay_fsm.specs.declared.Mode.{Mode}
+use Rattle.relay_fsm.specs.declared.Mode.the-variants.{Rtl}
 use Rattle.relay_fsm.specs.declared.Event.{Event}
 use Rattle.relay_fsm.specs.declared.Event.the-variants.{Failsafe}
 use Rattle.relay_fsm.specs.Fsm.{onOf}
 use Rattle.falcon_failsafe.specs.declared.state.FailsafeState.{FailsafeState}
 use Rattle.falcon_failsafe.specs.declared.state.FlightSupervisor.{FlightSupervisor}
 use Rattle.falcon_failsafe.specs.State.{withMode}
-use Rattle.falcon_failsafe.specs.Failsafe.{inFlight, withoutPosition, modeAfter, failsafedIn, motorLost, reportedOf}
+use Rattle.falcon_failsafe.specs.Failsafe.{inFlight, withoutPosition, modeAfter, failsafedIn, breachFails, motorLost, reportedOf}
 
 pub mode-if : (m : Mode) (b : Bool) (e : Event) → modeAfter m (cond b (some e) none) ≡ cond b (onOf m e inFlight) m
 mode-if m true e = refl
@@ -32,3 +33,8 @@ pub reported-is :
 unfolding reportedOf
 reported-is f failed true e = rw (← e)
 reported-is f failed false e = rw (← e)
+
+-- in Rtl a breach is a failsafe where the battery is critical, and only there
+pub breach-in-rtl : (critical : Bool) → breachFails Rtl true critical ≡ critical
+breach-in-rtl true = refl
+breach-in-rtl false = refl

@@ -19,7 +19,7 @@ use Rattle.falcon_failsafe.specs.Failsafe.{tiltedOf, runawayCounted, runawayGiv
 use Rattle.falcon_failsafe.specs.Failsafe.{gustyOf, windCounted, windGives, windIn, windOf, failsafesIn}
 use Rattle.falcon_flight.specs.declared.milestone.Reached.{Reached}
 use Rattle.falcon_flight.specs.declared.tick.Ticked.{Ticked}
-use Rattle.falcon_flight.specs.Milestone.{heightOf, highOf, nearHomeOf, nearGroundOf, arrivedOf, legOf, milestoneGives, milestoneIn, milestoneOf}
+use Rattle.falcon_flight.specs.Milestone.{heightOf, highOf, nearHomeOf, nearGroundOf, arrivedOf, legOf, milestoneGives, milestoneBy, milestoneIn, milestoneOf}
 use Rattle.falcon_flight.specs.Setpoint.{landingOf, setpointOf, commandedOf, motorsOffOf}
 use Rattle.falcon_flight.specs.Tick.{checkedOf, poweredOf, telemetryOf, sensedOf, afterBreach, afterRunaway, afterWind, afterMilestone}
 use Rattle.falcon_flight.specs.Tick.{holdingOf, answerIn, answeredOf, tickOf}
@@ -56,7 +56,7 @@ module _ (f : FlightSupervisor) (t : Tick) where
       milestoneOf f t
       ≡ let r = milestoneIn (f .fsm .mode) (f .config) (f .mission) (distanceOf (t .p) (f .config .home)) (t .p) in
       withMode (withMission f (leg r)) (r .mode) (f .«rtl_latched»)
-  unfolding milestoneOf milestoneGives legOf highOf nearHomeOf nearGroundOf heightOf arrivedOf milestoneIn
+  unfolding milestoneOf milestoneGives legOf highOf nearHomeOf nearGroundOf heightOf arrivedOf milestoneBy milestoneIn
   milestone-parts = refl
 
   answered-by :

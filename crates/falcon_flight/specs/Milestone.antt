@@ -100,15 +100,15 @@ legIn m arrived s = cond (isMode m Mission && arrived && moreOf s) (s .«wp_inde
 unfoldable pub legOf : FlightSupervisor → Tick → ℕ
 legOf f t = legIn (f .fsm .mode) (arrivedOf f t) (f .mission)
 
--- what the milestone changes, of a vehicle at this distance from home and this point: the mode and the leg
+-- what the milestone changes: the mode and the leg
+unfoldable pub milestoneBy : Mode → Config → MissionState → Bool → Bool → Bool → Point → Reached
+milestoneBy m c s high home ground p =
+    record { mode = modeAfter m (milestoneEvent m high home ground (arrivedAt c s p) (moreOf s)); «wp_index» = legIn m (arrivedAt c s p) s }
+
+-- at this distance from home and this point
 unfoldable pub milestoneIn : Mode → Config → MissionState → Float → Point → Reached
 milestoneIn m c s home p =
-    record {
-      mode =
-          modeAfter m
-          (milestoneEvent m (highAt (c .«cruise_alt») (neg (p .z))) (nearHomeAt home) (nearGroundAt (neg (p .z))) (arrivedAt c s p) (moreOf s));
-      «wp_index» = legIn m (arrivedAt c s p) s;
-    }
+    let height = neg (p .z) in milestoneBy m c s (highAt (c .«cruise_alt») height) (nearHomeAt home) (nearGroundAt height) p
 
 -- the milestone paragraph
 unfoldable pub milestoneOf : FlightSupervisor → Tick → FlightSupervisor

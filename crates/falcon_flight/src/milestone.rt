@@ -3,7 +3,7 @@ ghost use mathlib.Core.Path.{_≡_};
 ghost use Prim.Native.Nat.{_+_};
 ghost use mathlib.Core.Bool.{cond};
 ghost use lib.Dec.{ltb};
-ghost use Rattle.falcon_flight.specs.Milestone.{highAt, nearHomeAt, nearGroundAt, distance3Of, arrivedAt, legIn, milestoneIn};
+ghost use Rattle.falcon_flight.specs.Milestone.{highAt, nearHomeAt, nearGroundAt, distance3Of, arrivedAt, milestoneBy, milestoneIn};
 use falcon_failsafe::failsafe::in_flight;
 use falcon_failsafe::failsafe::on_if;
 use falcon_guidance::mission::current_waypoint;
@@ -79,27 +79,30 @@ fn leg_after(index: u32, count: u32) -> u32
     index
 }
 
-// The milestone of the mode, at this distance from home.
-pub(crate) fn milestone(mode: Mode, c: Config, m: Mission, home: f32, p: Point) -> Reached
-    ensures { λ r. ⌜ r ≡ milestoneIn mode c m home p ⌝ }
+// The milestone of the mode, by its tests.
+fn milestone_by(
+    mode: Mode,
+    c: Config,
+    m: Mission,
+    high: bool,
+    home: bool,
+    ground: bool,
+    p: Point,
+) -> Reached
+    ensures { λ r. ⌜ r ≡ milestoneBy mode c m high home ground p ⌝ }
 {
     let wp_index = m.wp_index;
     match mode {
         Mode::Takeoff => Reached {
-            mode: on_if(
-                mode,
-                high(c.cruise_alt, -p.z),
-                Event::ReachedAltitude,
-                in_flight(),
-            ),
+            mode: on_if(mode, high, Event::ReachedAltitude, in_flight()),
             wp_index,
         },
         Mode::Rtl => Reached {
-            mode: on_if(mode, near_home(home), Event::ReachedHome, in_flight()),
+            mode: on_if(mode, home, Event::ReachedHome, in_flight()),
             wp_index,
         },
         Mode::Land => Reached {
-            mode: on_if(mode, near_ground(-p.z), Event::Touchdown, in_flight()),
+            mode: on_if(mode, ground, Event::Touchdown, in_flight()),
             wp_index,
         },
         Mode::Mission => {
@@ -121,4 +124,20 @@ pub(crate) fn milestone(mode: Mode, c: Config, m: Mission, home: f32, p: Point) 
         Mode::Loiter => Reached { mode, wp_index },
         Mode::Terminated => Reached { mode, wp_index },
     }
+}
+
+// The milestone, at this distance from home.
+pub(crate) fn milestone(mode: Mode, c: Config, m: Mission, home: f32, p: Point) -> Reached
+    ensures { λ r. ⌜ r ≡ milestoneIn mode c m home p ⌝ }
+{
+    let height = -p.z;
+    milestone_by(
+        mode,
+        c,
+        m,
+        high(c.cruise_alt, height),
+        near_home(home),
+        near_ground(height),
+        p,
+    )
 }
