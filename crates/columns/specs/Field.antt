@@ -64,6 +64,16 @@ spaces k = replicate k space
 unfoldable pub put : List ℕ → ℕ → List ℕ → List ℕ
 put d at s = take at d ++ (s ++ drop (at + length s) d)
 
+-- two, four and eight bytes from place i on as a number, the first byte the lowest
+abbrev pub twoAt : List ℕ → ℕ → ℕ
+twoAt l i = getD l i 0 + getD l (i + 1) 0 * 256
+
+abbrev pub fourAt : List ℕ → ℕ → ℕ
+fourAt l i = twoAt l i + twoAt l (i + 2) * 65536
+
+abbrev pub eightAt : List ℕ → ℕ → ℕ
+eightAt l i = fourAt l i + fourAt l (i + 4) * 4294967296
+
 -- i is the first place from `at` on that has no space, or `end`
 pub record SkipsTo (l : List ℕ) (at end i : ℕ) : Type 0 where
   pub from : at ≤ i

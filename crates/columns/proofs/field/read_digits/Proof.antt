@@ -2,7 +2,6 @@
 use Prim.Native.Nat.{_-_}
 use native.Mathlib.Omega.{arith}
 use mathlib.Core.Path.{sym, _∙_}
-use borrow.Author.Tests.{lt-ltb, le-ltb}
 use Rattle.columns.specs.Field.{inRange}
 use Rattle.columns.proofs.FieldTurns.{DigitsTo, digits-first, digits-next, digits-fit, digits-last, at-low, at-high}
 use Rattle.columns.proofs.field.read_digits.Statement.{statement}
@@ -21,6 +20,7 @@ shared-slice-read-b : tie.Need-shared-slice-read-b Inv-loop μ-loop
 shared-slice-read-b c = omega arith
 
 returns : tie.Need-returns Inv-loop μ-loop
+unfolding inRange
 returns c =
     let inv = c .before .before .before .loop .inv in
     let a = c .before .before .before .before .args in
@@ -28,6 +28,7 @@ returns c =
     sym (inv .same ∙ at-low (a .line .now) (l .i) (a .end) (l .v) (omega arith) (omega arith) (omega arith))
 
 returns-2 : tie.Need-returns-2 Inv-loop μ-loop
+unfolding inRange
 returns-2 c =
     let inv = c .before .before .before .before .loop .inv in
     let a = c .before .before .before .before .before .args in
@@ -56,18 +57,8 @@ loop-less c = omega arith
 loop-again : tie.Need-loop-again Inv-loop μ-loop
 loop-again c = digits-next _ _ _ _ _ (omega arith) (omega arith) (omega arith) (omega arith) (c .before .before .before .before .loop .inv)
 
-cast-t13 : tie.Need-cast-t13 Inv-loop μ-loop
-cast-t13 c = omega arith
-
 returns-3 : tie.Need-returns-3 Inv-loop μ-loop
-unfolding inRange
-returns-3 c =
-    sym (digits-last _ _ _ _ _ (c .before .loop-test .left) (c .before .before .loop .inv) ∙ simp (lt-ltb _ _ (c .if3 .taken)))
-
-returns-4 : tie.Need-returns-4 Inv-loop μ-loop
-unfolding inRange
-returns-4 c =
-    sym (digits-last _ _ _ _ _ (c .before .loop-test .left) (c .before .before .loop .inv) ∙ simp (le-ltb _ _ (c .if3 .left)))
+returns-3 c = sym (digits-last _ _ _ _ _ (c .loop-test .left) (c .before .loop .inv))
 
 pub read-digits-spec : {M : Type 1} → statement M
 read-digits-spec =
@@ -85,6 +76,4 @@ read-digits-spec =
     add-i
     loop-less
     loop-again
-    cast-t13
-    returns-3
-    returns-4)
+    returns-3)
