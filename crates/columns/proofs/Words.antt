@@ -9,7 +9,7 @@ use lib.ListN.{length, getD}
 use lib.Seq.{slice, slice-empty, length-slice}
 use borrow.Author.Tests.{eq-eqb}
 use Rattle.columns.specs.declared.field.FieldRead.the-variants.{Number}
-use Rattle.columns.specs.Field.{fieldWidth, space, inRange, digits, start, spaced, readField, eightAt}
+use Rattle.columns.specs.Field.{fieldWidth, space, inRange, digits, start, spaced, readField, twoAt, eightAt}
 use Rattle.columns.proofs.FieldAgain.{digits-more, digits-after, start-digit, spaced-digit}
 use Rattle.columns.proofs.FieldTurns.{slice-one, read-spaced}
 
@@ -298,66 +298,61 @@ behind l at v n h e =
     ∙ digits-after v 0 (slice at (at + 8) l) n e
     ∙ ap (λ (k : ℕ). inRange (v * 10 ^ k + n)) long
 
+-- a digit behind a space, in front of further digits
+pub lead-one : (a b r : ℕ) → a ≡ space → (r < 10 → b ≡ 48 + r) → r < 10 → (r ≡ 0 → ⊥) → (s : List ℕ) → spaced (a ∷ b ∷ s) ≡ digits r s
+unfolding spaced
+lead-one a b r e f high low s =
+    let is : b ≡ 48 + r = f high in
+    let one : 0 * 10 + (b - 48) ≡ r = omega arith in
+    simp (eq-eqb a space e)
+    (spaced-digit b s (λ q. omega arith) ∙ start-digit b s (λ q. low (omega arith)) ∙ digits-more 0 b s (omega arith) (omega arith) ∙ ap (λ (v : ℕ). digits v s) one)
+
+-- two digits in front of further ones
+pub lead-two : (a b t o : ℕ) → (t < 10 → a ≡ 48 + t) → (o < 10 → b ≡ 48 + o) → t < 10 → (t ≡ 0 → ⊥) → o < 10 → (s : List ℕ) → spaced (a ∷ b ∷ s) ≡ digits (t * 10 + o) s
+lead-two a b t o f g high low k s =
+    let is : a ≡ 48 + t = f high in
+    let next : b ≡ 48 + o = g k in
+    let two : (0 * 10 + (a - 48)) * 10 + (b - 48) ≡ t * 10 + o = omega arith in
+    spaced-digit a (b ∷ s) (λ q. omega arith)
+    ∙ start-digit a (b ∷ s) (λ q. low (omega arith))
+    ∙ digits-more 0 a (b ∷ s) (omega arith) (omega arith)
+    ∙ digits-more (0 * 10 + (a - 48)) b s (omega arith) (omega arith)
+    ∙ ap (λ (v : ℕ). digits v s) two
+
 module _ (l : List ℕ) (at : ℕ) (h : at + fieldWidth ≤ length l) where
   -- one digit behind ten spaces
-  pub field-one : ((i : ℕ) → getD l i 0 < 256) → eightAt l at ≡ 2314885530818453536 → getD l (at + 8) 0 ≡ space → getD l (at + 9) 0 ≡ space
-      → 48 ≤ getD l (at + 10) 0 → getD l (at + 10) 0 ≤ 57 → inRange (getD l (at + 10) 0 - 48) ≡ readField (slice at (at + fieldWidth) l)
+  pub field-one : ((i : ℕ) → getD l i 0 < 256) → eightAt l at ≡ 2314885530818453536 → twoAt l (at + 8) ≡ 8224 → (r : ℕ) → (r < 10 → getD l (at + 10) 0 ≡ 48 + r) → r < 10
+      → inRange r ≡ readField (slice at (at + fieldWidth) l)
   unfolding eightBytes filled spaced start digits
-  field-one byte e f g low high =
+  field-one byte e f r is high =
       let b = getD l (at + 10) 0 in
+      let digit : b ≡ 48 + r = is high in
       let end : ℕ = at + fieldWidth in
-      let last : slice (at + 8) end l ≡ getD l (at + 8) 0 ∷ getD l (at + 9) 0 ∷ b ∷ [] =
-      slice-to l (at + 8) (at + 9) end (omega arith) h (omega arith)
-      ∙ front _ (slice-to l (at + 9) (at + 10) end (omega arith) h (omega arith)
+      let first : getD l (at + 8) 0 ≡ space = lowest (getD l (at + 8 + 1) 0) (getD l (at + 8) 0) space space (byte (at + 8)) (omega arith) (omega arith) in
+      let second : getD l (at + 8 + 1) 0 ≡ space = omega arith in
+      let last : slice (at + 8) end l ≡ getD l (at + 8) 0 ∷ getD l (at + 8 + 1) 0 ∷ b ∷ [] =
+      slice-to l (at + 8) (at + 8 + 1) end (omega arith) h (omega arith)
+      ∙ front _ (slice-to l (at + 8 + 1) (at + 10) end (omega arith) h (omega arith)
       ∙ front _ (slice-to l (at + 10) end end (omega arith) h (omega arith) ∙ front _ (slice-empty end l))) in
-      let none : 0 * 10 + (b - 48) ≡ b - 48 = omega arith in
+      let one : 0 * 10 + (b - 48) ≡ r = omega arith in
       sym (read-spaced l at h
       ∙ ap spaced (slice-more l at end (omega arith) h)
       ∙ passed (eightBytes l at) (slice (at + 8) end l) (bytes l at (omega arith) byte) (sym (eight-packed l at (omega arith)) ∙ e)
       ∙ ap spaced last
-      ∙ simp (eq-eqb (getD l (at + 8) 0) space f, eq-eqb (getD l (at + 9) 0) space g)
-      (spaced-digit b [] (λ q. omega arith) ∙ digits-more 0 b [] low high ∙ ap inRange none))
+      ∙ simp (eq-eqb (getD l (at + 8) 0) space first, eq-eqb (getD l (at + 8 + 1) 0) space second)
+      (spaced-digit b [] (λ q. omega arith) ∙ digits-more 0 b [] (omega arith) (omega arith) ∙ ap inRange one))
 
-  module _ (low : ℕ) (eight : digits 0 (slice (at + 3) (at + 3 + 8) l) ≡ Number low) (e : getD l at 0 ≡ space) (from : 48 ≤ getD l (at + 2) 0) (to : getD l (at + 2) 0 ≤ 57) where
-    field-rest : readField (slice at (at + fieldWidth) l) ≡ spaced (getD l (at + 1) 0 ∷ getD l (at + 2) 0 ∷ slice (at + 3) (at + 3 + 8) l)
-    unfolding spaced
-    field-rest =
-        let end : at + fieldWidth ≡ at + 3 + 8 = omega arith in
-        read-spaced l at h
-        ∙ ap spaced
-        (slice-to l at (at + 1) (at + fieldWidth) (omega arith) h (omega arith)
-        ∙ front _ (slice-to l (at + 1) (at + 2) (at + fieldWidth) (omega arith) h (omega arith)
-        ∙ front _ (slice-to l (at + 2) (at + 3) (at + fieldWidth) (omega arith) h (omega arith)
-        ∙ front _ (ap (λ (m : ℕ). slice (at + 3) m l) end))))
-        ∙ simp (eq-eqb (getD l at 0) space e)
-
-    -- nine digits
-    pub field-nine : getD l (at + 1) 0 ≡ space → (getD l (at + 2) 0 ≡ 48 → ⊥) → inRange ((getD l (at + 2) 0 - 48) * 100000000 + low) ≡ readField (slice at (at + fieldWidth) l)
-    unfolding spaced
-    field-nine f q =
-        let b = getD l (at + 2) 0 in
-        let s = slice (at + 3) (at + 3 + 8) l in
-        let none : (0 * 10 + (b - 48)) * 100000000 + low ≡ (b - 48) * 100000000 + low = omega arith in
-        sym (field-rest
-        ∙ simp (eq-eqb (getD l (at + 1) 0) space f)
-        (spaced-digit b s (λ k. omega arith)
-        ∙ start-digit b s q
-        ∙ digits-more 0 b s from to
-        ∙ behind l (at + 3) (0 * 10 + (b - 48)) low (omega arith) eight
-        ∙ ap inRange none))
-
-    -- ten digits
-    pub field-ten : 48 < getD l (at + 1) 0 → getD l (at + 1) 0 ≤ 57
-        → inRange ((getD l (at + 1) 0 - 48) * 1000000000 + ((getD l (at + 2) 0 - 48) * 100000000 + low)) ≡ readField (slice at (at + fieldWidth) l)
-    field-ten f g =
-        let a = getD l (at + 1) 0 in
-        let b = getD l (at + 2) 0 in
-        let s = slice (at + 3) (at + 3 + 8) l in
-        let both : ((0 * 10 + (a - 48)) * 10 + (b - 48)) * 100000000 + low ≡ (a - 48) * 1000000000 + ((b - 48) * 100000000 + low) = omega arith in
-        sym (field-rest
-        ∙ spaced-digit a (b ∷ s) (λ k. omega arith)
-        ∙ start-digit a (b ∷ s) (λ k. omega arith)
-        ∙ digits-more 0 a (b ∷ s) (omega arith) g
-        ∙ digits-more (0 * 10 + (a - 48)) b s from to
-        ∙ behind l (at + 3) ((0 * 10 + (a - 48)) * 10 + (b - 48)) low (omega arith) eight
-        ∙ ap inRange both)
+  -- eight digits behind a space and the two columns that begin the number
+  pub field-long : (high low : ℕ) → getD l at 0 ≡ space → ((s : List ℕ) → spaced (getD l (at + 1) 0 ∷ getD l (at + 2) 0 ∷ s) ≡ digits high s)
+      → digits 0 (slice (at + 3) (at + 3 + 8) l) ≡ Number low → inRange (high * 100000000 + low) ≡ readField (slice at (at + fieldWidth) l)
+  unfolding spaced
+  field-long high low e lead eight =
+      let end : at + fieldWidth ≡ at + 3 + 8 = omega arith in
+      sym (read-spaced l at h
+      ∙ ap spaced
+      (slice-to l at (at + 1) (at + fieldWidth) (omega arith) h (omega arith)
+      ∙ front _ (slice-to l (at + 1) (at + 2) (at + fieldWidth) (omega arith) h (omega arith)
+      ∙ front _ (slice-to l (at + 2) (at + 3) (at + fieldWidth) (omega arith) h (omega arith)
+      ∙ front _ (ap (λ (m : ℕ). slice (at + 3) m l) end))))
+      ∙ simp (eq-eqb (getD l at 0) space e)
+      (lead (slice (at + 3) (at + 3 + 8) l) ∙ behind l (at + 3) high low (omega arith) eight))

@@ -1,11 +1,11 @@
 // A field: one decimal number, right-justified in spaces.
 
-ghost use Prim.Native.Nat.{_+_, _*_, _/_, _%_, _≤_, _<_};
+ghost use Prim.Native.Nat.{ℕ, _+_, _*_, _/_, _%_, _≤_, _<_};
 ghost use mathlib.Core.Path.{_≡_};
-ghost use mathlib.Core.List.{_++_};
+ghost use mathlib.Core.List.{List, _∷_, _++_};
 ghost use lib.ListN.{length, set, drop};
 ghost use lib.Seq.{slice};
-ghost use Rattle.columns.specs.Field.{fieldWidth, numberLimit, inRange, digits, readField, twoAt, fourAt, eightAt, SkipsTo, fieldOf, spaces, put};
+ghost use Rattle.columns.specs.Field.{fieldWidth, numberLimit, inRange, digits, spaced, readField, twoAt, fourAt, eightAt, SkipsTo, fieldOf, spaces, put};
 ghost use Rattle.columns.specs.Line.{lineOf, writtenOver};
 
 // The bytes of a field.
@@ -16,6 +16,9 @@ pub const NUMBER_LIMIT: u64 = 4_294_967_296;
 
 // Eight spaces.
 const SPACES: u64 = 0x2020_2020_2020_2020;
+
+// Two spaces.
+const TWO_SPACES: u64 = 0x2020;
 
 // Eight digits 0.
 const ZEROS: u64 = 0x3030_3030_3030_3030;
@@ -142,40 +145,57 @@ fn read_eight(line: &[u8], at: usize) -> u64
     (z * 10_000 + z / 4_294_967_296) % 4_294_967_296
 }
 
+// The number of a digit, or at least 10.
+fn digit(b: u8) -> u64
+    ensures { λ r. ⌜ (r < 10 → b ≡ 48 + r) ⌝ }
+{
+    if b < b'0' {
+        return 10;
+    }
+    wide(b - b'0')
+}
+
+// The number that `a` and `b` write in front of further digits, two digits or a digit behind a space, or 100.
+fn lead(a: u8, b: u8) -> u64
+    ensures { λ r. ⌜ (r < 100 → (s : List ℕ) → spaced (a ∷ b ∷ s) ≡ digits r s) ⌝ }
+{
+    let tens = digit(a);
+    let ones = digit(b);
+    if 10 <= ones {
+        return 100;
+    }
+    if a == b' ' {
+        if ones == 0 {
+            return 100;
+        }
+        return ones;
+    }
+    if tens == 0 {
+        return 100;
+    }
+    if 10 <= tens {
+        return 100;
+    }
+    tens * 10 + ones
+}
+
 // The number of the field at `at`, or at least NUMBER_LIMIT: nine or ten digits at once.
 fn read_long(line: &[u8], at: usize) -> u64
     requires { ⌜ at + fieldWidth ≤ length (now line) ⌝ }
     ensures { λ r. ⌜ inRange r ≡ readField (slice at (at + fieldWidth) (now (line .entry))) ⌝ }
 {
-    let a = line[at + 1];
-    let b = line[at + 2];
     if line[at] != b' ' {
         return read_plain(line, at);
     }
-    if b < b'0' {
-        return read_plain(line, at);
-    }
-    if b'9' < b {
+    let high = lead(line[at + 1], line[at + 2]);
+    if 100 <= high {
         return read_plain(line, at);
     }
     let low = read_eight(line, at + 3);
     if NUMBER_LIMIT <= low {
         return read_plain(line, at);
     }
-    let nine = wide(b - b'0') * 100_000_000 + low;
-    if a == b' ' {
-        if b == b'0' {
-            return read_plain(line, at);
-        }
-        return nine;
-    }
-    if a <= b'0' {
-        return read_plain(line, at);
-    }
-    if b'9' < a {
-        return read_plain(line, at);
-    }
-    wide(a - b'0') * 1_000_000_000 + nine
+    high * 100_000_000 + low
 }
 
 // The number of the field at `at`, or at least NUMBER_LIMIT: a digit behind spaces at once.
@@ -186,20 +206,14 @@ fn read_value(line: &[u8], at: usize) -> u64
     if eight(line, at) != SPACES {
         return read_long(line, at);
     }
-    let b = line[at + 10];
-    if line[at + 8] != b' ' {
+    if two(line, at + 8) != TWO_SPACES {
         return read_plain(line, at);
     }
-    if line[at + 9] != b' ' {
+    let last = digit(line[at + 10]);
+    if 10 <= last {
         return read_plain(line, at);
     }
-    if b < b'0' {
-        return read_plain(line, at);
-    }
-    if b'9' < b {
-        return read_plain(line, at);
-    }
-    wide(b - b'0')
+    last
 }
 
 // What the field at `at` says.
