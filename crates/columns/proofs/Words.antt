@@ -206,7 +206,7 @@ module _ (a b c d e f g h : ℕ) (w : Within 0 9 (a ∷ b ∷ c ∷ d ∷ e ∷ 
 eightBytes : List ℕ → ℕ → List ℕ
 eightBytes l i =
     getD l i 0 ∷ getD l (i + 1) 0 ∷ getD l (i + 2) 0 ∷ getD l (i + 2 + 1) 0
-    ∷ getD l (i + 4) 0 ∷ getD l (i + 4 + 1) 0 ∷ getD l (i + 4 + 2) 0 ∷ getD l (i + 4 + 2 + 1) 0 ∷ []
+    ∷ getD l (i + 4) 0 ∷ getD l (i + 4 + 1) 0 ∷ getD l (i + 6) 0 ∷ getD l (i + 6 + 1) 0 ∷ []
 
 slice-to : (l : List ℕ) (i j end : ℕ) → i < end → end ≤ length l → i + 1 ≡ j → slice i end l ≡ getD l i 0 ∷ slice j end l
 slice-to l i j end h k e = slice-one l i end h k ∙ ap (λ (m : ℕ). getD l i 0 ∷ slice m end l) e
@@ -222,9 +222,9 @@ slice-more l at end h k =
     ∙ front _ (slice-to l (at + 2) (at + 2 + 1) end (omega arith) k (omega arith)
     ∙ front _ (slice-to l (at + 2 + 1) (at + 4) end (omega arith) k (omega arith)
     ∙ front _ (slice-to l (at + 4) (at + 4 + 1) end (omega arith) k (omega arith)
-    ∙ front _ (slice-to l (at + 4 + 1) (at + 4 + 2) end (omega arith) k (omega arith)
-    ∙ front _ (slice-to l (at + 4 + 2) (at + 4 + 2 + 1) end (omega arith) k (omega arith)
-    ∙ front _ (slice-to l (at + 4 + 2 + 1) (at + 8) end (omega arith) k (omega arith))))))))
+    ∙ front _ (slice-to l (at + 4 + 1) (at + 6) end (omega arith) k (omega arith)
+    ∙ front _ (slice-to l (at + 6) (at + 6 + 1) end (omega arith) k (omega arith)
+    ∙ front _ (slice-to l (at + 6 + 1) (at + 8) end (omega arith) k (omega arith))))))))
 
 module _ (l : List ℕ) (at : ℕ) (h : at + 8 ≤ length l) where
   eight-packed : eightAt l at ≡ packed (eightBytes l at)
@@ -250,7 +250,7 @@ module _ (l : List ℕ) (at : ℕ) (h : at + 8 ≤ length l) where
                   omega arith,
                   (
                     omega (arith, byte (at + 2 + 1)),
-                    (omega arith, (omega (arith, byte (at + 4)), (omega arith, (omega (arith, byte (at + 4 + 1)), (omega arith, (omega (arith, byte (at + 4 + 2)), (omega arith, (omega (arith, byte (at + 4 + 2 + 1)), tt)))))))),
+                    (omega arith, (omega (arith, byte (at + 4)), (omega arith, (omega (arith, byte (at + 4 + 1)), (omega arith, (omega (arith, byte (at + 6)), (omega arith, (omega (arith, byte (at + 6 + 1)), tt)))))))),
                   ),
                 ),
               ),

@@ -64,15 +64,17 @@ spaces k = replicate k space
 unfoldable pub put : List ℕ → ℕ → List ℕ → List ℕ
 put d at s = take at d ++ (s ++ drop (at + length s) d)
 
--- two, four and eight bytes from place i on as a number, the first byte the lowest
+-- two and eight bytes from place i on as a number, the first byte the lowest
 abbrev pub twoAt : List ℕ → ℕ → ℕ
 twoAt l i = getD l i 0 + getD l (i + 1) 0 * 256
 
-abbrev pub fourAt : List ℕ → ℕ → ℕ
-fourAt l i = twoAt l i + twoAt l (i + 2) * 65536
-
 abbrev pub eightAt : List ℕ → ℕ → ℕ
-eightAt l i = fourAt l i + fourAt l (i + 4) * 4294967296
+eightAt l i = twoAt l i + twoAt l (i + 2) * 65536 + twoAt l (i + 4) * 4294967296 + twoAt l (i + 6) * 281474976710656
+
+-- r is the number that the byte b writes as a digit, or at least 10 where it is none
+pub record DigitOf (b r : ℕ) : Type 0 where
+  pub is : r < 10 → b ≡ 48 + r
+  pub none : 10 ≤ r → 48 ≤ b → 57 < b
 
 -- i is the first place from `at` on that has no space, or `end`
 pub record SkipsTo (l : List ℕ) (at end i : ℕ) : Type 0 where

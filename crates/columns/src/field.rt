@@ -5,7 +5,7 @@ ghost use mathlib.Core.Path.{_≡_};
 ghost use mathlib.Core.List.{List, _∷_, _++_};
 ghost use lib.ListN.{length, set, drop};
 ghost use lib.Seq.{slice};
-ghost use Rattle.columns.specs.Field.{fieldWidth, numberLimit, inRange, digits, spaced, readField, twoAt, fourAt, eightAt, SkipsTo, fieldOf, spaces, put};
+ghost use Rattle.columns.specs.Field.{fieldWidth, numberLimit, inRange, digits, spaced, readField, twoAt, eightAt, SkipsTo, DigitOf, fieldOf, spaces, put};
 ghost use Rattle.columns.specs.Line.{lineOf, writtenOver};
 
 // The bytes of a field.
@@ -56,6 +56,23 @@ fn skip_spaces(line: &[u8], at: usize, end: usize) -> usize
     i
 }
 
+// A byte as a number of eight bytes.
+fn wide(b: u8) -> u64
+    ensures { λ r. ⌜ r ≡ b ⌝ }
+{
+    b as u64
+}
+
+// The number of a digit, or at least 10.
+fn digit(b: u8) -> u64
+    ensures { λ r. ⌜ DigitOf b r ⌝ }
+{
+    if b < b'0' {
+        return 10;
+    }
+    wide(b - b'0')
+}
+
 // The number that the bytes from `from` to `end` write in decimal, or NUMBER_LIMIT.
 fn read_digits(line: &[u8], from: usize, end: usize) -> u64
     requires { ⌜ (from ≤ end) × ((end ≤ from + fieldWidth) × (end ≤ length (now line))) ⌝ }
@@ -64,14 +81,11 @@ fn read_digits(line: &[u8], from: usize, end: usize) -> u64
     let mut v: u64 = 0;
     let mut i = from;
     while i < end {
-        let b = line[i];
-        if b < b'0' {
+        let d = digit(line[i]);
+        if 10 <= d {
             return NUMBER_LIMIT;
         }
-        if b'9' < b {
-            return NUMBER_LIMIT;
-        }
-        v = v * 10 + ((b - b'0') as u64);
+        v = v * 10 + d;
         i += 1;
     }
     v
@@ -96,13 +110,6 @@ fn read_plain(line: &[u8], at: usize) -> u64
     read_digits(line, start, end)
 }
 
-// A byte as a number of eight bytes.
-fn wide(b: u8) -> u64
-    ensures { λ r. ⌜ r ≡ b ⌝ }
-{
-    b as u64
-}
-
 // Two bytes as a number, the first the lowest.
 fn two(line: &[u8], at: usize) -> u64
     requires { ⌜ at + 2 ≤ length (now line) ⌝ }
@@ -111,20 +118,15 @@ fn two(line: &[u8], at: usize) -> u64
     wide(line[at]) + wide(line[at + 1]) * 256
 }
 
-// Four bytes as a number.
-fn four(line: &[u8], at: usize) -> u64
-    requires { ⌜ at + 4 ≤ length (now line) ⌝ }
-    ensures { λ r. ⌜ (r ≡ fourAt (now (line .entry)) at) × (r < 4294967296) ⌝ }
-{
-    two(line, at) + two(line, at + 2) * 65_536
-}
-
 // Eight bytes as a number.
 fn eight(line: &[u8], at: usize) -> u64
     requires { ⌜ at + 8 ≤ length (now line) ⌝ }
     ensures { λ r. ⌜ r ≡ eightAt (now (line .entry)) at ⌝ }
 {
-    four(line, at) + four(line, at + 4) * 4_294_967_296
+    two(line, at)
+        + two(line, at + 2) * 65_536
+        + two(line, at + 4) * 4_294_967_296
+        + two(line, at + 6) * 281_474_976_710_656
 }
 
 // The number that the eight bytes at `at` write in decimal, or NUMBER_LIMIT: digits are joined to pairs, pairs to fours, and fours to the number.
@@ -143,16 +145,6 @@ fn read_eight(line: &[u8], at: usize) -> u64
     let y = (x * 10 + x / 256) & PAIRS;
     let z = (y * 100 + y / 65_536) & FOURS;
     (z * 10_000 + z / 4_294_967_296) % 4_294_967_296
-}
-
-// The number of a digit, or at least 10.
-fn digit(b: u8) -> u64
-    ensures { λ r. ⌜ (r < 10 → b ≡ 48 + r) ⌝ }
-{
-    if b < b'0' {
-        return 10;
-    }
-    wide(b - b'0')
 }
 
 // The number that `a` and `b` write in front of further digits, two digits or a digit behind a space, or 100.

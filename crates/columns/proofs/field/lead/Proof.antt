@@ -20,7 +20,7 @@ returns-2 c = λ q. absurd (omega arith)
 returns-3 : tie.Need-returns-3
 returns-3 c = λ q.
     let ones = c .before .before .before in
-    lead-one _ _ (ones .digit2 .result) (c .before .if2 .taken) (ones .digit2 .ensures) (c .before .before .if1 .left) (c .if3 .left)
+    lead-one _ _ (ones .digit2 .result) (c .before .if2 .taken) (ones .digit2 .ensures .is) (c .before .before .if1 .left) (c .if3 .left)
 
 returns-4 : tie.Need-returns-4
 returns-4 c = λ q. absurd (omega arith)
@@ -37,7 +37,7 @@ add-result c = search needs
 returns-6 : tie.Need-returns-6
 returns-6 c = λ q.
     let ones = c .before .before .before .before in
-    lead-two _ _ (ones .before .digit .result) (ones .digit2 .result) (ones .before .digit .ensures) (ones .digit2 .ensures) (c .if5 .left) (c .before .if4 .left)
+    lead-two _ _ (ones .before .digit .result) (ones .digit2 .result) (ones .before .digit .ensures .is) (ones .digit2 .ensures .is) (c .if5 .left) (c .before .if4 .left)
     (c .before .before .before .if1 .left)
 
 pub lead-spec : {M : Type 1} → statement M

@@ -48,7 +48,7 @@ returns-4 c =
     let start = eight .before .before in
     field-one (start .args .line .now) (start .args .at) (start .pre) (λ i. eight .before .shared-slice-known .given i .fits)
     (sym (eight .eight .ensures) ∙ two .before .if1 .left) (sym (two .two .ensures .0) ∙ c .before .before .before .if2 .left)
-    (c .before .digit .result) (c .before .digit .ensures) (c .if3 .left)
+    (c .before .digit .result) (c .before .digit .ensures .is) (c .if3 .left)
 
 pub read-value-spec : {M : Type 1} → statement M
 read-value-spec =
