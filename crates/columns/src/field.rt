@@ -67,10 +67,7 @@ fn wide(b: u8) -> u64
 fn digit(b: u8) -> u64
     ensures { λ r. ⌜ DigitOf b r ⌝ }
 {
-    if b < b'0' {
-        return 10;
-    }
-    wide(b - b'0')
+    wide(std::num::wrapping_sub_u8(b, b'0'))
 }
 
 // The number that the bytes from `from` to `end` write in decimal, or NUMBER_LIMIT.
