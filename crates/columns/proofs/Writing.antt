@@ -8,7 +8,7 @@ use mathlib.Core.Path.{_≡_, refl, sym, ap, subst, _∙_}
 use mathlib.Core.List.{List, [], _∷_, _++_, append-nil, append-assoc}
 use lib.ListN.{length, getD, set, take, drop, length-append, length-drop, length-replicate, replicate-append-replicate, take-append-drop}
 use lib.Seq.{length-take-le, drop-cons, set-at, take-at, drop-at, take-suc, take-length, drop-append-add, drop-drop}
-use Rattle.columns.specs.Field.{fieldWidth, space, columns, fieldOf, spaces, put}
+use Rattle.columns.specs.Field.{fieldWidth, pad, columns, fieldOf, spaces, put}
 use Rattle.columns.specs.Line.{lineOf, writtenOver}
 use borrow.Author.Tests.{lt-ltb, le-ltb}
 use Rattle.columns.proofs.FieldAgain.{spaces-one, columns-none, columns-more, length-columns, length-field}
@@ -70,12 +70,12 @@ put-put d at s t h e =
 pub blank-first : (d : List ℕ) (at : ℕ) → d ≡ put d at (spaces 0)
 blank-first d at = sym (put-none d at)
 
-pub blank-next : (d : List ℕ) (at i : ℕ) → at + i < length d → set (put d at (spaces i)) (at + i) space ≡ put d at (spaces (i + 1))
+pub blank-next : (d : List ℕ) (at i : ℕ) → at + i < length d → set (put d at (spaces i)) (at + i) pad ≡ put d at (spaces (i + 1))
 blank-next d at i h =
-    let long : length (spaces i) ≡ i = length-replicate i space in
-    ap (λ (k : ℕ). set (put d at (spaces i)) (at + k) space) (sym long)
-    ∙ put-more d at (spaces i) space (omega arith)
-    ∙ ap (put d at) (replicate-append-replicate i 1 space)
+    let long : length (spaces i) ≡ i = length-replicate i pad in
+    ap (λ (k : ℕ). set (put d at (spaces i)) (at + k) pad) (sym long)
+    ∙ put-more d at (spaces i) pad (omega arith)
+    ∙ ap (put d at) (replicate-append-replicate i 1 pad)
 
 -- ---- a field, from its last column to its first
 
@@ -94,7 +94,7 @@ store : (d : List ℕ) (at k : ℕ) (last : List ℕ) (b i : ℕ) → at ≤ len
 store d at k last b i h e =
     ap (λ (l : List ℕ). set (put d at (l ++ last)) i b) (spaces-one k)
     ∙ ap (λ (l : List ℕ). set (put d at l) i b) (append-assoc (spaces k) (spaces 1) last)
-    ∙ put-inside d at (spaces k) space last b i h (e ∙ ap (λ (m : ℕ). at + m) (sym (length-replicate k space)))
+    ∙ put-inside d at (spaces k) pad last b i h (e ∙ ap (λ (m : ℕ). at + m) (sym (length-replicate k pad)))
 
 pub partly-first : (d b : List ℕ) (at n : ℕ) → n < 2 ^ 32 → at + fieldWidth ≤ length d → b ≡ put d at (spaces fieldWidth)
     → Partly b b at n (at + fieldWidth) n
@@ -172,7 +172,7 @@ module _ (d out : List ℕ) (at n i rest : ℕ) (h : at + fieldWidth ≤ length 
       let field : length (columns (i - 1 - at) (rest / 10) ++ t) ≡ fieldWidth = ap length (p .whole) ∙ length-field n in
       let long : length s ≡ fieldWidth =
       length-append (spaces (i - at)) (p .last)
-      ∙ omega (arith, length-replicate (i - at) space, length-columns (i - 1 - at) (rest / 10), length-append (columns (i - 1 - at) (rest / 10)) t) in
+      ∙ omega (arith, length-replicate (i - at) pad, length-columns (i - 1 - at) (rest / 10), length-append (columns (i - 1 - at) (rest / 10)) t) in
       ap length (p .is) ∙ length-put d at s (omega arith)
 
 -- two digits more, the later one stored first

@@ -43,9 +43,13 @@ spaced (b ∷ s) = cond (eqb b space) (spaced s) (start b s)
 unfoldable pub readField : List ℕ → FieldRead
 readField s = cond (eqb (length s) fieldWidth) (spaced s) Bad
 
+-- the byte in front of a number's digits
+abbrev pub pad : ℕ
+pad = space
+
 -- the last digit of what is left of a number, or a space where nothing is left
 unfoldable pub column : ℕ → ℕ
-column n = cond (eqb n 0) space (48 + n % 10)
+column n = cond (eqb n 0) pad (48 + n % 10)
 
 -- the last k columns of what is left of a number
 unfoldable pub columns : ℕ → ℕ → List ℕ
@@ -58,7 +62,7 @@ fieldOf n = columns (fieldWidth - 1) (n / 10) ++ ((48 + n % 10) ∷ [])
 
 -- k spaces
 abbrev pub spaces : ℕ → List ℕ
-spaces k = replicate k space
+spaces k = replicate k pad
 
 -- d with the bytes s from place `at` on
 unfoldable pub put : List ℕ → ℕ → List ℕ → List ℕ

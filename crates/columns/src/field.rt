@@ -2,11 +2,11 @@
 
 ghost use Prim.Native.Nat.{ℕ, _+_, _*_, _/_, _%_, _≤_, _<_};
 ghost use mathlib.Core.Path.{_≡_};
-ghost use mathlib.Core.List.{List, _∷_, _++_};
-ghost use lib.ListN.{length, set, drop};
+ghost use mathlib.Core.List.{List, _∷_};
+ghost use lib.ListN.{length, set};
 ghost use lib.Seq.{slice};
 ghost use Rattle.columns.specs.Field.{fieldWidth, numberLimit, inRange, digits, spaced, readField, twoAt, eightAt, SkipsTo, DigitOf, fieldOf, spaces, put};
-ghost use Rattle.columns.specs.Line.{lineOf, writtenOver};
+ghost use Rattle.columns.specs.Line.{writtenOver};
 
 // The bytes of a field.
 pub const FIELD: usize = 11;
@@ -268,20 +268,6 @@ fn write_field(out: &mut [u8], at: usize, n: u32)
     write_pair(out, i - 2, rest);
 }
 
-// A field for each number, from the start on.
-fn write_fields(out: &mut [u8], numbers: &[u32])
-    requires { ⌜ fieldWidth * length (now numbers) ≤ length (now out) ⌝ }
-    ensures { λ _. ⌜ now (out .exit) ≡ lineOf (now (numbers .entry)) ++ drop (fieldWidth * length (now (numbers .entry))) (now (out .entry)) ⌝ }
-{
-    let mut at = 0;
-    let mut k = 0;
-    while k < numbers.len() {
-        write_field(out, at, numbers[k]);
-        at += FIELD;
-        k += 1;
-    }
-}
-
 // A field for each number, from the start on, where the buffer has room for all of them; else nothing.
 pub fn write_numbers(out: &mut [u8], numbers: &[u32])
     ensures { λ _. ⌜ now (out .exit) ≡ writtenOver (now (numbers .entry)) (now (out .entry)) ⌝ }
@@ -289,5 +275,11 @@ pub fn write_numbers(out: &mut [u8], numbers: &[u32])
     if out.len() / FIELD < numbers.len() {
         return;
     }
-    write_fields(out, numbers);
+    let mut at = 0;
+    let mut k = 0;
+    while k < numbers.len() {
+        write_field(out, at, numbers[k]);
+        at += FIELD;
+        k += 1;
+    }
 }
