@@ -1,6 +1,6 @@
 -- A field that is written is read as its number, and a field that is read is the one that is written. Assumes nothing.
 use Prim.Native.Nat.{ℕ, zero, suc, _+_, _-_, _*_, _/_, _%_, _^_, _≤_, _<_}
-use native.Mathlib.Nat.{pow-suc, add-zero}
+use native.Mathlib.Nat.{pow-suc, add-zero, mul-assoc, mul-comm}
 use native.Mathlib.Numerals.{add-one}
 use native.Mathlib.Omega.{arith}
 use native.Mathlib.Decide.{ℕ-discrete, decLe, decLt}
@@ -18,7 +18,7 @@ unfolding digits
 digits-more v b s low high = simp (le-leb 48 b low, le-leb b 57 high)
 
 -- a number in range is itself
-in-range : (v : ℕ) → v < numberLimit → inRange v ≡ Number v
+pub in-range : (v : ℕ) → v < numberLimit → inRange v ≡ Number v
 unfolding inRange
 in-range v h = simp (lt-ltb v numberLimit h)
 
@@ -164,6 +164,20 @@ digit-is v b s n h =
           ]
       | no q ↦ bad-never n (simp (lt-leb 48 b (omega arith)) at h)
     ]
+
+-- digits that write n, after others that gave v
+pub digits-after : (v u : ℕ) (s : List ℕ) (n : ℕ) → digits u s ≡ Number n → digits (v + u) s ≡ inRange (v * 10 ^ length s + n)
+unfolding digits
+digits-after v u [] n h = let e : v + u ≡ v * 1 + n = let r = range-is u n h .0 in omega arith in ap inRange e
+digits-after v u (b ∷ s) n h =
+    let d : Digit u b s n = digit-is u b s n h in
+    let e : (v + u) * 10 + (b - 48) ≡ v * 10 + (u * 10 + (b - 48)) = omega arith in
+    let p : v * 10 * 10 ^ length s ≡ v * 10 ^ suc (length s) =
+    mul-assoc v 10 (10 ^ length s) ∙ ap (λ (m : ℕ). v * m) (mul-comm 10 (10 ^ length s) ∙ sym (pow-suc 10 (length s))) in
+    digits-more (v + u) b s (d .low) (d .high)
+    ∙ ap (λ (m : ℕ). digits m s) e
+    ∙ digits-after (v * 10) (u * 10 + (b - 48)) s n (d .next)
+    ∙ ap (λ (m : ℕ). inRange (m + n)) p
 
 -- a number that was read is in range, and no less than its first digits
 digits-range : (v : ℕ) (s : List ℕ) (n : ℕ) → digits v s ≡ Number n → (v ≤ n) × (n < numberLimit)

@@ -3,13 +3,14 @@ use Prim.Native.Nat.{ℕ, suc, _+_, _-_, _*_, _^_, _≤_, _<_}
 use native.Mathlib.Nat.{pow-suc, pow-le-pow-right}
 use native.Mathlib.Numerals.{add-one}
 use native.Mathlib.Omega.{arith}
+use native.Mathlib.Decide.{decLe}
 use mathlib.Core.Path.{_≡_, refl, sym, ap, _∙_}
 use mathlib.Core.List.{List, [], _∷_}
 use lib.ListN.{length, getD}
 use lib.Seq.{slice, slice-cons, slice-empty, length-slice}
 use borrow.Author.Tests.{le-leb, lt-leb, eq-eqb}
 use Rattle.columns.specs.declared.field.FieldRead.the-variants.{Number, Bad}
-use Rattle.columns.specs.Field.{fieldWidth, space, inRange, digits, start, spaced, readField, SkipsTo}
+use Rattle.columns.specs.Field.{fieldWidth, space, inRange, digits, start, spaced, readField, SkipsTo, DigitOf}
 use Rattle.columns.proofs.FieldAgain.{digits-more, start-digit, spaced-digit}
 
 -- a part begins with the element at its first place
@@ -24,17 +25,16 @@ at-space l i end h k e = ap spaced (slice-one l i end h k) ∙ simp (eq-eqb (get
 
 -- ---- digits
 
-module _ (l : List ℕ) (i end v : ℕ) (h : i < end) (k : end ≤ length l) where
-  pub at-low : getD l i 0 < 48 → digits v (slice i end l) ≡ Bad
-  unfolding digits
-  at-low low = ap (digits v) (slice-one l i end h k) ∙ simp (lt-leb 48 (getD l i 0) low)
-
-  pub at-high : 57 < getD l i 0 → digits v (slice i end l) ≡ Bad
-  unfolding digits
-  at-high high = ap (digits v) (slice-one l i end h k) ∙ simp (le-leb 48 (getD l i 0) (omega arith), lt-leb (getD l i 0) 57 high)
-
-  pub at-digit : 48 ≤ getD l i 0 → getD l i 0 ≤ 57 → digits v (slice i end l) ≡ digits (v * 10 + (getD l i 0 - 48)) (slice (i + 1) end l)
-  at-digit low high = ap (digits v) (slice-one l i end h k) ∙ digits-more v (getD l i 0) (slice (i + 1) end l) low high
+-- a byte that is no digit
+pub at-none : (l : List ℕ) (i end v r : ℕ) → i < end → end ≤ length l → DigitOf (getD l i 0) r → 10 ≤ r → digits v (slice i end l) ≡ Bad
+unfolding digits
+at-none l i end v r h k d none =
+    let b : ℕ = getD l i 0 in
+    ap (digits v) (slice-one l i end h k)
+    ∙ elim (decLe 48 b) [
+      | yes low ↦ simp (le-leb 48 b low, lt-leb b 57 (d .none none low))
+      | no q ↦ simp (lt-leb 48 b (omega arith))
+    ]
 
 -- the digits from `from` to i gave v
 pub record DigitsTo (l : List ℕ) (from end v i : ℕ) : Type 0 where
@@ -48,17 +48,23 @@ digits-first l from end h =
     let z : from - from ≡ 0 = omega arith in
     record { low = omega arith; high = h; small = rw z (omega arith); same = refl }
 
-pub digits-next : (l : List ℕ) (from end v i : ℕ) → end ≤ length l → i < end → 48 ≤ getD l i 0 → getD l i 0 ≤ 57
-    → DigitsTo l from end v i → DigitsTo l from end (v * 10 + (getD l i 0 - 48)) (i + 1)
-digits-next l from end v i k h low high d =
+pub digits-next : (l : List ℕ) (from end v i r : ℕ) → end ≤ length l → i < end → DigitOf (getD l i 0) r → r < 10 → DigitsTo l from end v i → DigitsTo l from end (v * 10 + r) (i + 1)
+digits-next l from end v i r k h is less d =
+    let b : ℕ = getD l i 0 in
+    let e : b ≡ 48 + r = is .is less in
     let a : from ≤ i = d .low in
     let s : v < 10 ^ (i - from) = d .small in
     let one : i + 1 - from ≡ suc (i - from) = omega arith in
+    let digit : v * 10 + (b - 48) ≡ v * 10 + r = omega arith in
     record {
       low = omega arith;
       high = omega arith;
       small = rw (one, pow-suc 10 (i - from)) (omega arith);
-      same = d .same ∙ at-digit l i end v h k low high;
+      same =
+          d .same
+          ∙ ap (digits v) (slice-one l i end h k)
+          ∙ digits-more v b (slice (i + 1) end l) (omega arith) (omega arith)
+          ∙ ap (λ (w : ℕ). digits w (slice (i + 1) end l)) digit;
     }
 
 -- digits of a field fit a u64 with one more

@@ -1,5 +1,6 @@
 mod FieldTurns
 mod LineTurns
+mod Words
 pub mod FieldAgain
 pub mod LineAgain
 pub mod Writing

@@ -4,11 +4,11 @@ use native.Mathlib.Nat.{pow-suc, add-zero}
 use native.Mathlib.Numerals.{add-one}
 use native.Mathlib.Omega.{arith}
 use native.Mathlib.Decide.{decLt}
-use mathlib.Core.Path.{_≡_, refl, sym, ap, _∙_}
+use mathlib.Core.Path.{_≡_, refl, sym, ap, subst, _∙_}
 use mathlib.Core.List.{List, [], _∷_, _++_, append-nil, append-assoc}
 use lib.ListN.{length, getD, set, take, drop, length-append, length-drop, length-replicate, replicate-append-replicate, take-append-drop}
 use lib.Seq.{length-take-le, drop-cons, set-at, take-at, drop-at, take-suc, take-length, drop-append-add, drop-drop}
-use Rattle.columns.specs.Field.{fieldWidth, space, columns, fieldOf, spaces, put}
+use Rattle.columns.specs.Field.{fieldWidth, pad, columns, fieldOf, spaces, put}
 use Rattle.columns.specs.Line.{lineOf, writtenOver}
 use borrow.Author.Tests.{lt-ltb, le-ltb}
 use Rattle.columns.proofs.FieldAgain.{spaces-one, columns-none, columns-more, length-columns, length-field}
@@ -70,22 +70,22 @@ put-put d at s t h e =
 pub blank-first : (d : List ℕ) (at : ℕ) → d ≡ put d at (spaces 0)
 blank-first d at = sym (put-none d at)
 
-pub blank-next : (d : List ℕ) (at i : ℕ) → at + i < length d → set (put d at (spaces i)) (at + i) space ≡ put d at (spaces (i + 1))
+pub blank-next : (d : List ℕ) (at i : ℕ) → at + i < length d → set (put d at (spaces i)) (at + i) pad ≡ put d at (spaces (i + 1))
 blank-next d at i h =
-    let long : length (spaces i) ≡ i = length-replicate i space in
-    ap (λ (k : ℕ). set (put d at (spaces i)) (at + k) space) (sym long)
-    ∙ put-more d at (spaces i) space (omega arith)
-    ∙ ap (put d at) (replicate-append-replicate i 1 space)
+    let long : length (spaces i) ≡ i = length-replicate i pad in
+    ap (λ (k : ℕ). set (put d at (spaces i)) (at + k) pad) (sym long)
+    ∙ put-more d at (spaces i) pad (omega arith)
+    ∙ ap (put d at) (replicate-append-replicate i 1 pad)
 
 -- ---- a field, from its last column to its first
 
 -- the first i - at columns are spaces still, and stand for the columns of rest
 pub record Partly (d out : List ℕ) (at n i rest : ℕ) : Type 0 where
-  pub from : at ≤ i
-  pub to : i < at + fieldWidth
+  pub from : at < i
+  pub to : i ≤ at + fieldWidth
   pub small : rest < 10 ^ (i - at)
   pub last : List ℕ
-  pub whole : columns (i - at) rest ++ last ≡ fieldOf n
+  pub whole : columns (i - 1 - at) (rest / 10) ++ ((48 + rest % 10) ∷ last) ≡ fieldOf n
   pub is : out ≡ put d at (spaces (i - at) ++ last)
 
 -- a store at the last space
@@ -94,85 +94,137 @@ store : (d : List ℕ) (at k : ℕ) (last : List ℕ) (b i : ℕ) → at ≤ len
 store d at k last b i h e =
     ap (λ (l : List ℕ). set (put d at (l ++ last)) i b) (spaces-one k)
     ∙ ap (λ (l : List ℕ). set (put d at l) i b) (append-assoc (spaces k) (spaces 1) last)
-    ∙ put-inside d at (spaces k) space last b i h (e ∙ ap (λ (m : ℕ). at + m) (sym (length-replicate k space)))
-
--- the last digit, stored into spaces
-started : (d b : List ℕ) (at n : ℕ) → at + fieldWidth ≤ length d → b ≡ put d at (spaces fieldWidth)
-    → set b (at + (fieldWidth - 1)) (48 + n % 10) ≡ put d at (spaces (fieldWidth - 1) ++ ((48 + n % 10) ∷ []))
-started d b at n h e =
-    ap (λ (l : List ℕ). set l (at + (fieldWidth - 1)) (48 + n % 10)) (e ∙ ap (put d at) (sym (append-nil (spaces fieldWidth))))
-    ∙ store d at (fieldWidth - 1) [] (48 + n % 10) (at + (fieldWidth - 1)) (omega arith) refl
+    ∙ put-inside d at (spaces k) pad last b i h (e ∙ ap (λ (m : ℕ). at + m) (sym (length-replicate k pad)))
 
 pub partly-first : (d b : List ℕ) (at n : ℕ) → n < 2 ^ 32 → at + fieldWidth ≤ length d → b ≡ put d at (spaces fieldWidth)
-    → Partly (set b (at + (fieldWidth - 1)) (48 + n % 10)) (set b (at + (fieldWidth - 1)) (48 + n % 10)) at n (at + (fieldWidth - 1)) (n / 10)
+    → Partly b b at n (at + fieldWidth) n
 unfolding fieldOf
 partly-first d b at n r h e =
-    let k : at + (fieldWidth - 1) - at ≡ fieldWidth - 1 = omega arith in
-    let f : List ℕ = spaces (fieldWidth - 1) ++ ((48 + n % 10) ∷ []) in
-    let s : set b (at + (fieldWidth - 1)) (48 + n % 10) ≡ put d at f = started d b at n h e in
+    let k : at + fieldWidth - at ≡ fieldWidth = omega arith in
+    let j : at + fieldWidth - 1 - at ≡ fieldWidth - 1 = omega arith in
     record {
       from = omega arith;
       to = omega arith;
       small = rw k (omega arith);
-      last = (48 + n % 10) ∷ [];
-      whole = ap (λ (m : ℕ). columns m (n / 10) ++ ((48 + n % 10) ∷ [])) k;
+      last = [];
+      whole = ap (λ (m : ℕ). columns m (n / 10) ++ ((48 + n % 10) ∷ [])) j;
       is =
-          s
-          ∙ sym (put-put d at f f (omega arith) refl)
-          ∙ ap (λ (l : List ℕ). put l at f) (sym s)
-          ∙ ap (λ (m : ℕ). put (set b (at + (fieldWidth - 1)) (48 + n % 10)) at (spaces m ++ ((48 + n % 10) ∷ []))) (sym k);
+          e
+          ∙ sym (put-put d at (spaces fieldWidth) (spaces fieldWidth) (omega arith) refl)
+          ∙ ap (λ (l : List ℕ). put l at (spaces fieldWidth)) (sym e)
+          ∙ ap (λ (m : ℕ). put b at (spaces m)) (sym k)
+          ∙ ap (put b at) (sym (append-nil (spaces (at + fieldWidth - at))));
     }
 
--- where something is left there is a column before
-pub partly-more : (d out : List ℕ) (at n i rest : ℕ) → Partly d out at n i rest → 0 < rest → at < i
-partly-more d out at n i rest p h =
-    elim (decLt at i) [
-      | yes q ↦ q
-      | no q ↦ let z : i - at ≡ 0 = omega arith in let s : rest < 10 ^ 0 = rw z at (p .small) in absurd (omega arith)
-    ]
+module _ (d out : List ℕ) (at n i rest : ℕ) (h : at + fieldWidth ≤ length d) (p : Partly d out at n i rest) where
+  -- the last column that is a space yet gets its digit
+  put-last : set out (i - 1) (48 + rest % 10) ≡ put d at (spaces (i - 1 - at) ++ ((48 + rest % 10) ∷ p .last))
+  put-last =
+      let low : at < i = p .from in
+      let k : i - at ≡ suc (i - 1 - at) = omega arith in
+      ap (λ (l : List ℕ). set l (i - 1) (48 + rest % 10)) (p .is ∙ ap (λ (m : ℕ). put d at (spaces m ++ p .last)) k)
+      ∙ store d at (i - 1 - at) (p .last) (48 + rest % 10) (i - 1) (omega arith) (omega arith)
 
-pub partly-next : (d out : List ℕ) (at n i rest : ℕ) → at + fieldWidth ≤ length d → 0 < rest → Partly d out at n i rest
-    → Partly d (set out (i - 1) (48 + rest % 10)) at n (i - 1) (rest / 10)
-partly-next d out at n i rest h low p =
-    let less : at < i = partly-more d out at n i rest p low in
-    let k : i - at ≡ suc (i - 1 - at) = omega arith in
-    let below : rest < 10 ^ (i - 1 - at) * 10 = rw (k, pow-suc 10 (i - 1 - at)) at (p .small) in
-    record {
-      from = omega arith;
-      to = let t : i < at + fieldWidth = p .to in omega arith;
-      small = omega arith;
-      last = (48 + rest % 10) ∷ p .last;
-      whole =
-          sym (columns-more (i - 1 - at) rest (p .last) low)
-          ∙ ap (λ (m : ℕ). columns m rest ++ p .last) (sym k)
-          ∙ p .whole;
-      is =
-          ap (λ (l : List ℕ). set l (i - 1) (48 + rest % 10)) (p .is ∙ ap (λ (m : ℕ). put d at (spaces m ++ p .last)) k)
-          ∙ store d at (i - 1 - at) (p .last) (48 + rest % 10) (i - 1) (omega arith) (omega arith);
-    }
+  -- where a digit more is left there is a column before
+  pub partly-more : 10 ≤ rest → at + 1 < i
+  partly-more q =
+      let low : at < i = p .from in
+      elim (decLt (at + 1) i) [
+        | yes more ↦ more
+        | no none ↦ let z : i - at ≡ 1 = omega arith in let s : rest < 10 ^ 1 = rw z at (p .small) in absurd (omega arith)
+      ]
 
-pub partly-last : (d b out : List ℕ) (at n i rest : ℕ) → at + fieldWidth ≤ length d → b ≡ put d at (spaces fieldWidth)
-    → Partly (set b (at + (fieldWidth - 1)) (48 + n % 10)) out at n i rest → rest ≡ 0 → out ≡ put d at (fieldOf n)
-partly-last d b out at n i rest h s p e =
-    let first : List ℕ = set b (at + (fieldWidth - 1)) (48 + n % 10) in
-    p .is
-    ∙ ap (put first at)
-    (ap (λ (l : List ℕ). l ++ p .last) (sym (columns-none (i - at)))
-    ∙ ap (λ (m : ℕ). columns (i - at) m ++ p .last) (sym e)
-    ∙ p .whole)
-    ∙ ap (λ (l : List ℕ). put l at (fieldOf n)) (started d b at n h s)
-    ∙ put-put d at (spaces (fieldWidth - 1) ++ ((48 + n % 10) ∷ [])) (fieldOf n) (omega arith) (sym (length-field n))
+  -- one digit more
+  partly-next : 10 ≤ rest → Partly d (set out (i - 1) (48 + rest % 10)) at n (i - 1) (rest / 10)
+  partly-next q =
+      let less : at + 1 < i = partly-more q in
+      let most : i ≤ at + fieldWidth = p .to in
+      let k : i - 1 - at ≡ suc (i - 1 - 1 - at) = omega arith in
+      let one : i - at ≡ suc (i - 1 - at) = omega arith in
+      let below : rest < 10 ^ (i - 1 - at) * 10 = rw (one, pow-suc 10 (i - 1 - at)) at (p .small) in
+      record {
+        from = omega arith;
+        to = omega arith;
+        small = omega arith;
+        last = (48 + rest % 10) ∷ p .last;
+        whole =
+            sym (columns-more (i - 1 - 1 - at) (rest / 10) ((48 + rest % 10) ∷ p .last) (omega arith))
+            ∙ ap (λ (m : ℕ). columns m (rest / 10) ++ ((48 + rest % 10) ∷ p .last)) (sym k)
+            ∙ p .whole;
+        is = put-last;
+      }
 
-pub length-partly : (d out : List ℕ) (at n i rest : ℕ) → at + fieldWidth ≤ length d → Partly d out at n i rest → length out ≡ length d
-length-partly d out at n i rest h p =
-    let s : List ℕ = spaces (i - at) ++ p .last in
-    let long : length s ≡ fieldWidth =
-    length-append (spaces (i - at)) (p .last)
-    ∙ ap (λ (k : ℕ). k + length (p .last)) (length-replicate (i - at) space ∙ sym (length-columns (i - at) rest))
-    ∙ sym (length-append (columns (i - at) rest) (p .last))
-    ∙ ap length (p .whole)
-    ∙ length-field n in
-    ap length (p .is) ∙ length-put d at s (omega arith)
+  -- the first digit
+  partly-end : rest < 10 → set out (i - 1) (48 + rest % 10) ≡ put d at (fieldOf n)
+  partly-end q =
+      let none : 0 ≡ rest / 10 = omega arith in
+      put-last
+      ∙ ap (put d at)
+      (ap (λ (l : List ℕ). l ++ ((48 + rest % 10) ∷ p .last)) (sym (columns-none (i - 1 - at)))
+      ∙ ap (λ (m : ℕ). columns (i - 1 - at) m ++ ((48 + rest % 10) ∷ p .last)) none
+      ∙ p .whole)
+
+  pub length-partly : length out ≡ length d
+  length-partly =
+      let low : at < i = p .from in
+      let s : List ℕ = spaces (i - at) ++ p .last in
+      let t : List ℕ = (48 + rest % 10) ∷ p .last in
+      let field : length (columns (i - 1 - at) (rest / 10) ++ t) ≡ fieldWidth = ap length (p .whole) ∙ length-field n in
+      let long : length s ≡ fieldWidth =
+      length-append (spaces (i - at)) (p .last)
+      ∙ omega (arith, length-replicate (i - at) pad, length-columns (i - 1 - at) (rest / 10), length-append (columns (i - 1 - at) (rest / 10)) t) in
+      ap length (p .is) ∙ length-put d at s (omega arith)
+
+-- two digits more, the later one stored first
+pub partly-pair : (d out next : List ℕ) (at n i rest : ℕ) → at + fieldWidth ≤ length d → Partly d out at n i rest → 100 ≤ rest
+    → next ≡ set (set out (i - 2 + 1) (48 + rest % 100 % 10)) (i - 2) (48 + rest % 100 / 10) → Partly d next at n (i - 2) (rest / 100)
+partly-pair d out next at n i rest h p q e =
+    let one : Partly d (set out (i - 1) (48 + rest % 10)) at n (i - 1) (rest / 10) = partly-next d out at n i rest h p (omega arith) in
+    let two : Partly d (set (set out (i - 1) (48 + rest % 10)) (i - 1 - 1) (48 + rest / 10 % 10)) at n (i - 1 - 1) (rest / 10 / 10) =
+    partly-next d (set out (i - 1) (48 + rest % 10)) at n (i - 1) (rest / 10) h one (omega arith) in
+    let less : at + 1 < i = partly-more d out at n i rest h p (omega arith) in
+    let a : i - 1 ≡ i - 2 + 1 = omega arith in
+    let b : rest % 10 ≡ rest % 100 % 10 = omega arith in
+    let c : i - 1 - 1 ≡ i - 2 = omega arith in
+    let f : rest / 10 % 10 ≡ rest % 100 / 10 = omega arith in
+    let g : rest / 10 / 10 ≡ rest / 100 = omega arith in
+    let same : set (set out (i - 1) (48 + rest % 10)) (i - 1 - 1) (48 + rest / 10 % 10) ≡ next =
+    ap (λ (k : ℕ). set (set out k (48 + rest % 10)) (i - 1 - 1) (48 + rest / 10 % 10)) a
+    ∙ ap (λ (k : ℕ). set (set out (i - 2 + 1) (48 + k)) (i - 1 - 1) (48 + rest / 10 % 10)) b
+    ∙ ap (λ (k : ℕ). set (set out (i - 2 + 1) (48 + rest % 100 % 10)) k (48 + rest / 10 % 10)) c
+    ∙ ap (λ (k : ℕ). set (set out (i - 2 + 1) (48 + rest % 100 % 10)) (i - 2) (48 + k)) f
+    ∙ sym e in
+    subst (λ (o : List ℕ). Partly d o at n (i - 2) (rest / 100)) same
+    (subst (λ (k : ℕ). Partly d (set (set out (i - 1) (48 + rest % 10)) (i - 1 - 1) (48 + rest / 10 % 10)) at n k (rest / 100)) c
+    (subst (λ (k : ℕ). Partly d (set (set out (i - 1) (48 + rest % 10)) (i - 1 - 1) (48 + rest / 10 % 10)) at n (i - 1 - 1) k) g two))
+
+-- what is put over the spaces is put over what was there before them
+over-spaces : (d b : List ℕ) (at n : ℕ) → at + fieldWidth ≤ length d → b ≡ put d at (spaces fieldWidth) → put b at (fieldOf n) ≡ put d at (fieldOf n)
+over-spaces d b at n h e =
+    ap (λ (l : List ℕ). put l at (fieldOf n)) e ∙ put-put d at (spaces fieldWidth) (fieldOf n) (omega arith) (sym (length-field n))
+
+module _ (d b out : List ℕ) (at n i rest : ℕ) (h : at + fieldWidth ≤ length d) (same : length b ≡ length d) (s : b ≡ put d at (spaces fieldWidth)) (p : Partly b out at n i rest) where
+  -- the first digit alone
+  pub partly-one : rest < 10 → set out (i - 1) (48 + rest) ≡ put d at (fieldOf n)
+  partly-one q =
+      let a : rest ≡ rest % 10 = omega arith in
+      ap (λ (k : ℕ). set out (i - 1) (48 + k)) a ∙ partly-end b out at n i rest (omega arith) p q ∙ over-spaces d b at n h s
+
+  -- the first two digits
+  pub partly-two : (last : List ℕ) → 10 ≤ rest → rest < 100 → last ≡ set (set out (i - 2 + 1) (48 + rest % 10)) (i - 2) (48 + rest / 10)
+      → last ≡ put d at (fieldOf n)
+  partly-two last low high e =
+      let one : Partly b (set out (i - 1) (48 + rest % 10)) at n (i - 1) (rest / 10) = partly-next b out at n i rest (omega arith) p low in
+      let less : at + 1 < i = partly-more b out at n i rest (omega arith) p low in
+      let a : i - 2 + 1 ≡ i - 1 = omega arith in
+      let c : i - 2 ≡ i - 1 - 1 = omega arith in
+      let f : rest / 10 ≡ rest / 10 % 10 = omega arith in
+      e
+      ∙ ap (λ (k : ℕ). set (set out k (48 + rest % 10)) (i - 2) (48 + rest / 10)) a
+      ∙ ap (λ (k : ℕ). set (set out (i - 1) (48 + rest % 10)) k (48 + rest / 10)) c
+      ∙ ap (λ (k : ℕ). set (set out (i - 1) (48 + rest % 10)) (i - 1 - 1) (48 + k)) f
+      ∙ partly-end b (set out (i - 1) (48 + rest % 10)) at n (i - 1) (rest / 10) (omega arith) one (omega arith)
+      ∙ over-spaces d b at n h s
 
 -- ---- several fields
 

@@ -43,9 +43,13 @@ spaced (b ∷ s) = cond (eqb b space) (spaced s) (start b s)
 unfoldable pub readField : List ℕ → FieldRead
 readField s = cond (eqb (length s) fieldWidth) (spaced s) Bad
 
+-- the byte in front of a number's digits
+abbrev pub pad : ℕ
+pad = space
+
 -- the last digit of what is left of a number, or a space where nothing is left
 unfoldable pub column : ℕ → ℕ
-column n = cond (eqb n 0) space (48 + n % 10)
+column n = cond (eqb n 0) pad (48 + n % 10)
 
 -- the last k columns of what is left of a number
 unfoldable pub columns : ℕ → ℕ → List ℕ
@@ -58,11 +62,23 @@ fieldOf n = columns (fieldWidth - 1) (n / 10) ++ ((48 + n % 10) ∷ [])
 
 -- k spaces
 abbrev pub spaces : ℕ → List ℕ
-spaces k = replicate k space
+spaces k = replicate k pad
 
 -- d with the bytes s from place `at` on
 unfoldable pub put : List ℕ → ℕ → List ℕ → List ℕ
 put d at s = take at d ++ (s ++ drop (at + length s) d)
+
+-- two and eight bytes from place i on as a number, the first byte the lowest
+abbrev pub twoAt : List ℕ → ℕ → ℕ
+twoAt l i = getD l i 0 + getD l (i + 1) 0 * 256
+
+abbrev pub eightAt : List ℕ → ℕ → ℕ
+eightAt l i = twoAt l i + twoAt l (i + 2) * 65536 + twoAt l (i + 4) * 4294967296 + twoAt l (i + 6) * 281474976710656
+
+-- r is the number that the byte b writes as a digit, or at least 10 where it is none
+pub record DigitOf (b r : ℕ) : Type 0 where
+  pub is : r < 10 → b ≡ 48 + r
+  pub none : 10 ≤ r → 48 ≤ b → 57 < b
 
 -- i is the first place from `at` on that has no space, or `end`
 pub record SkipsTo (l : List ℕ) (at end i : ℕ) : Type 0 where

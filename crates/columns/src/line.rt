@@ -1,6 +1,5 @@
 // A line: fields, one after the other.
 
-ghost use Prim.Native.Nat.{_≤_};
 ghost use mathlib.Core.Path.{_≡_};
 ghost use lib.ListN.{length};
 ghost use Rattle.columns.specs.Line.{readWithin, readingOf, Counted};
@@ -23,10 +22,9 @@ pub enum LineRead {
     Broken,
 }
 
-// The numbers of a line that may have `limit` fields.
-fn read_within(line: &[u8], limit: usize, numbers: &mut [u32]) -> LineRead
-    requires { ⌜ limit ≤ length (now numbers) ⌝ }
-    ensures { λ r. ⌜ readingOf r (now (numbers .exit)) ≡ readWithin limit (now (line .entry)) ⌝ }
+// The numbers of a line that may have as many fields as the array has places.
+pub fn read_line(line: &[u8], numbers: &mut [u32]) -> LineRead
+    ensures { λ r. ⌜ readingOf r (now (numbers .exit)) ≡ readWithin (length (now (numbers .entry))) (now (line .entry)) ⌝ }
     ensures { λ r. ⌜ Counted r (now (numbers .exit)) ⌝ }
 {
     let n = line.len();
@@ -37,7 +35,7 @@ fn read_within(line: &[u8], limit: usize, numbers: &mut [u32]) -> LineRead
         return LineRead::Broken;
     }
     let count = n / FIELD;
-    if limit < count {
+    if numbers.len() < count {
         return LineRead::Broken;
     }
     let mut at = 0;
@@ -51,13 +49,4 @@ fn read_within(line: &[u8], limit: usize, numbers: &mut [u32]) -> LineRead
         k += 1;
     }
     LineRead::Numbers(k)
-}
-
-// The numbers of a line that may have as many fields as the array has places.
-pub fn read_line(line: &[u8], numbers: &mut [u32]) -> LineRead
-    ensures { λ r. ⌜ readingOf r (now (numbers .exit)) ≡ readWithin (length (now (numbers .entry))) (now (line .entry)) ⌝ }
-    ensures { λ r. ⌜ Counted r (now (numbers .exit)) ⌝ }
-{
-    let limit = numbers.len();
-    read_within(line, limit, numbers)
 }

@@ -4,7 +4,7 @@ use native.Mathlib.Omega.{arith}
 use mathlib.Core.Path.{_≡_, ap, _∙_}
 use mathlib.Core.List.{List}
 use lib.ListN.{length, set, length-set}
-use Rattle.columns.specs.Field.{fieldWidth, space, spaces, put}
+use Rattle.columns.specs.Field.{fieldWidth, pad, spaces, put}
 use Rattle.columns.proofs.Writing.{blank-first, blank-next}
 use Rattle.columns.proofs.field.blank.Statement.{statement}
 use Rattle.columns.proofs.field.blank.Tie as tie
@@ -37,8 +37,8 @@ loop-again c =
     let i = c .before .loop .i in (
       omega arith,
       (
-        ap (λ (l : List ℕ). set l (a .at + i) space) (inv .1 .0) ∙ blank-next (a .out .now) (a .at) i (omega arith),
-        length-set (c .before .loop .out) (a .at + i) space ∙ inv .1 .1,
+        ap (λ (l : List ℕ). set l (a .at + i) pad) (inv .1 .0) ∙ blank-next (a .out .now) (a .at) i (omega arith),
+        length-set (c .before .loop .out) (a .at + i) pad ∙ inv .1 .1,
       ),
     )
 

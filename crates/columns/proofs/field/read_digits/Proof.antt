@@ -2,9 +2,9 @@
 use Prim.Native.Nat.{_-_}
 use native.Mathlib.Omega.{arith}
 use mathlib.Core.Path.{sym, _∙_}
-use borrow.Author.Tests.{lt-ltb, le-ltb}
+use borrow.Author.Needs.{needs}
 use Rattle.columns.specs.Field.{inRange}
-use Rattle.columns.proofs.FieldTurns.{DigitsTo, digits-first, digits-next, digits-fit, digits-last, at-low, at-high}
+use Rattle.columns.proofs.FieldTurns.{DigitsTo, digits-first, digits-next, digits-fit, digits-last, at-none}
 use Rattle.columns.proofs.field.read_digits.Statement.{statement}
 use Rattle.columns.proofs.field.read_digits.Tie as tie
 
@@ -17,34 +17,30 @@ abbrev μ-loop : tie.MeasureT-loop
 loop-holds : tie.Need-loop-holds Inv-loop μ-loop
 loop-holds c = digits-first _ _ _ (omega arith)
 
-shared-slice-read-b : tie.Need-shared-slice-read-b Inv-loop μ-loop
-shared-slice-read-b c = omega arith
+shared-slice-read-digit : tie.Need-shared-slice-read-digit Inv-loop μ-loop
+shared-slice-read-digit c = omega arith
+
+digit-requires : tie.Need-digit-requires Inv-loop μ-loop
+digit-requires c κs = search needs
 
 returns : tie.Need-returns Inv-loop μ-loop
+unfolding inRange
 returns c =
-    let inv = c .before .before .before .loop .inv in
-    let a = c .before .before .before .before .args in
-    let l = c .before .before .before .loop in
-    sym (inv .same ∙ at-low (a .line .now) (l .i) (a .end) (l .v) (omega arith) (omega arith) (omega arith))
-
-returns-2 : tie.Need-returns-2 Inv-loop μ-loop
-returns-2 c =
-    let inv = c .before .before .before .before .loop .inv in
-    let a = c .before .before .before .before .before .args in
-    let l = c .before .before .before .before .loop in
-    sym (inv .same ∙ at-high (a .line .now) (l .i) (a .end) (l .v) (omega arith) (omega arith) (omega arith))
+    let l = c .before .before .before .before in
+    let a = l .before .before .args in
+    sym (l .loop .inv .same
+    ∙ at-none (a .line .now) (l .loop .i) (a .end) (l .loop .v) (c .before .digit .result) (omega arith) (omega arith) (c .before .digit .ensures) (c .if1 .taken))
 
 mul-v : tie.Need-mul-v Inv-loop μ-loop
 mul-v c =
-    let fit = digits-fit _ _ _ _ _ (c .before .before .before .before .before .pre .1 .0) (c .before .before .before .loop-test .taken) (c .before .before .before .before .loop .inv) in
+    let l = c .before .before .before .before in
+    let fit = digits-fit _ _ _ _ _ (l .before .before .pre .1 .0) (c .before .before .before .loop-test .taken) (l .loop .inv) in
     omega arith
-
-cast-v : tie.Need-cast-v Inv-loop μ-loop
-cast-v c = omega arith
 
 add-v : tie.Need-add-v Inv-loop μ-loop
 add-v c =
-    let fit = digits-fit _ _ _ _ _ (c .before .before .before .before .before .pre .1 .0) (c .before .before .before .loop-test .taken) (c .before .before .before .before .loop .inv) in
+    let l = c .before .before .before .before in
+    let fit = digits-fit _ _ _ _ _ (l .before .before .pre .1 .0) (c .before .before .before .loop-test .taken) (l .loop .inv) in
     omega arith
 
 add-i : tie.Need-add-i Inv-loop μ-loop
@@ -54,20 +50,10 @@ loop-less : tie.Need-loop-less Inv-loop μ-loop
 loop-less c = omega arith
 
 loop-again : tie.Need-loop-again Inv-loop μ-loop
-loop-again c = digits-next _ _ _ _ _ (omega arith) (omega arith) (omega arith) (omega arith) (c .before .before .before .before .loop .inv)
+loop-again c = digits-next _ _ _ _ _ _ (omega arith) (omega arith) (c .before .digit .ensures) (c .if1 .left) (c .before .before .before .before .loop .inv)
 
-cast-t13 : tie.Need-cast-t13 Inv-loop μ-loop
-cast-t13 c = omega arith
-
-returns-3 : tie.Need-returns-3 Inv-loop μ-loop
-unfolding inRange
-returns-3 c =
-    sym (digits-last _ _ _ _ _ (c .before .loop-test .left) (c .before .before .loop .inv) ∙ simp (lt-ltb _ _ (c .if3 .taken)))
-
-returns-4 : tie.Need-returns-4 Inv-loop μ-loop
-unfolding inRange
-returns-4 c =
-    sym (digits-last _ _ _ _ _ (c .before .loop-test .left) (c .before .before .loop .inv) ∙ simp (le-ltb _ _ (c .if3 .left)))
+returns-2 : tie.Need-returns-2 Inv-loop μ-loop
+returns-2 c = sym (digits-last _ _ _ _ _ (c .loop-test .left) (c .before .loop .inv))
 
 pub read-digits-spec : {M : Type 1} → statement M
 read-digits-spec =
@@ -76,15 +62,12 @@ read-digits-spec =
     Inv-loop
     μ-loop
     loop-holds
-    shared-slice-read-b
+    shared-slice-read-digit
+    digit-requires
     returns
-    returns-2
     mul-v
-    cast-v
     add-v
     add-i
     loop-less
     loop-again
-    cast-t13
-    returns-3
-    returns-4)
+    returns-2)

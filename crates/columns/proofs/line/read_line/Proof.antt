@@ -1,4 +1,4 @@
--- `read_within` is `readWithin`: the length is tried first, and then a turn reads a field.
+-- `read_line` is `readWithin`: the length is tried first, and then a turn reads a field.
 use Prim.Native.Nat.{_-_, _/_, _≤_}
 use native.Mathlib.Omega.{arith}
 use mathlib.Core.Path.{_≡_, refl, sym, _∙_}
@@ -9,40 +9,40 @@ use Rattle.columns.specs.Field.{fieldWidth}
 use Rattle.columns.specs.Line.{readingOf, readWithin, fields}
 use Rattle.columns.proofs.LineAgain.{within-ok, within-none, within-uneven, within-long}
 use Rattle.columns.proofs.LineTurns.{ReadTo, read-first, read-next, read-bad, read-last}
-use Rattle.columns.proofs.line.read_within.Statement.{statement}
-use Rattle.columns.proofs.line.read_within.Tie as tie
+use Rattle.columns.proofs.line.read_line.Statement.{statement}
+use Rattle.columns.proofs.line.read_line.Tie as tie
 
 abbrev Inv-loop : tie.InvT-loop
-Inv-loop line limit numbers₀ n count at₀ k₀ numbers at k = ReadTo line count numbers at k × (length numbers ≡ length numbers₀)
+Inv-loop line numbers₀ n count at₀ k₀ numbers at k = ReadTo line count numbers at k × (length numbers ≡ length numbers₀)
 
 abbrev μ-loop : tie.MeasureT-loop
-μ-loop line limit numbers₀ n count at₀ k₀ numbers at k = count - k
+μ-loop line numbers₀ n count at₀ k₀ numbers at k = count - k
 
 -- at the loop the length has been tried
 even : (c : tie.At-loop Inv-loop μ-loop)
     → let a = c .before .before .before .before .before .before .args in
-    readWithin (a .limit) (a .line .now) ≡ fields (length (a .line .now) / fieldWidth) (a .line .now)
+    readWithin (length (a .numbers .now)) (a .line .now) ≡ fields (length (a .line .now) / fieldWidth) (a .line .now)
 even c =
     let a = c .before .before .before .before .before .before .args in
-    within-ok (a .limit) (a .line .now) (omega arith) (c .before .before .if2 .left) (omega arith)
+    within-ok (length (a .numbers .now)) (a .line .now) (omega arith) (c .before .before .if2 .left) (omega arith)
 
 returns : tie.Need-returns Inv-loop μ-loop
 unfolding readingOf
 returns c =
     let a = c .before .before .before .args in
-    (sym (within-none (a .limit) (a .line .now) (c .if1 .taken)), tt)
+    (sym (within-none (length (a .numbers .now)) (a .line .now) (c .if1 .taken)), tt)
 
 returns-2 : tie.Need-returns-2 Inv-loop μ-loop
 unfolding readingOf
 returns-2 c =
     let a = c .before .before .before .before .args in
-    (sym (within-uneven (a .limit) (a .line .now) (c .if2 .taken)), tt)
+    (sym (within-uneven (length (a .numbers .now)) (a .line .now) (c .if2 .taken)), tt)
 
 returns-3 : tie.Need-returns-3 Inv-loop μ-loop
 unfolding readingOf
 returns-3 c =
     let a = c .before .before .before .before .before .args in
-    (sym (within-long (a .limit) (a .line .now) (omega arith)), tt)
+    (sym (within-long (length (a .numbers .now)) (a .line .now) (omega arith)), tt)
 
 loop-holds : tie.Need-loop-holds Inv-loop μ-loop
 loop-holds c = (read-first _ _ _, refl)
@@ -107,8 +107,8 @@ returns-5 c =
     let room : l .k ≤ length (l .numbers) = omega (arith, l .inv .0 .most, l .inv .1) in
     (sym (even (c .before) ∙ read-last _ _ _ _ _ (c .loop-test .left) (l .inv .0)), (room, sym (length-take-le _ _ room)))
 
-pub read-within-spec : {M : Type 1} → statement M
-read-within-spec =
+pub read-line-spec : {M : Type 1} → statement M
+read-line-spec =
     tie.close
     (tie.spec
     Inv-loop
