@@ -1,7 +1,7 @@
 //! Two programs on one sheet: their answers side by side, up to the first difference.
 
 use crate::random::Random;
-use crate::sheet::{read_call, Call, ANSWER_FIELDS, WIDTH};
+use crate::sheet::{call_of, read_line, Call, ANSWER_FIELDS, WIDTH};
 use std::io::{self, Read, Write};
 use std::process::{Command, Stdio};
 use std::thread;
@@ -72,7 +72,7 @@ pub fn difference<'a>(first: &'a [u8], second: &'a [u8]) -> Option<Difference<'a
 /// The lines of a sheet from the last opening before a line on, that line included. An opening starts everything anew.
 pub fn since_opening(sheet: &[u8], line: usize) -> (usize, Vec<&[u8]>) {
     let lines: Vec<&[u8]> = sheet.split(|&b| b == b'\n').take(line + 1).collect();
-    let opens = |l: &&[u8]| matches!(read_call(l), Ok(Call::Opening(_)));
+    let opens = |l: &&[u8]| read_line(l).is_some_and(|n| matches!(call_of(&n), Ok(Call::Opening(_))));
     let from = lines.iter().rposition(opens).unwrap_or(0);
     (from, lines[from..].to_vec())
 }

@@ -1,6 +1,6 @@
-//! `compare PROGRAM REFERENCE PROFILE SEED LINES [--pieces] [--all] [--without-zones]` runs both programs on a generated sheet and stops
-//! at the first difference. With --pieces the sheet is cut at random places on its way into PROGRAM; with --all it also fails unless
-//! every refusal 1..8 and every mode was answered; with --without-zones the sheet has no line of kind 6. `compare PROGRAM REFERENCE --sheet FILE` takes a sheet from a file.
+//! `compare PROGRAM REFERENCE PROFILE SEED LINES [--pieces] [--all]` runs both programs on a generated sheet and stops at the first
+//! difference. With --pieces the sheet is cut at random places on its way into PROGRAM; with --all it also fails unless every refusal 1..8
+//! and every mode was answered. `compare PROGRAM REFERENCE --sheet FILE` takes a sheet from a file.
 
 use reference::compare::{counts, difference, run, since_opening};
 use reference::generate::{generate, Profile};
@@ -24,8 +24,8 @@ fn main() -> ExitCode {
 }
 
 fn compare() -> Result<String, String> {
-    const USAGE: &str = "usage: compare PROGRAM REFERENCE wild|flight|edge SEED LINES [--pieces] [--all] [--without-zones]\n       compare PROGRAM REFERENCE --sheet FILE [--pieces]";
-    const OPTIONS: [&str; 3] = ["--pieces", "--all", "--without-zones"];
+    const USAGE: &str = "usage: compare PROGRAM REFERENCE wild|flight|edge SEED LINES [--pieces] [--all]\n       compare PROGRAM REFERENCE --sheet FILE [--pieces]";
+    const OPTIONS: [&str; 2] = ["--pieces", "--all"];
     let (options, words): (Vec<String>, Vec<String>) = env::args().skip(1).partition(|a| OPTIONS.contains(&a.as_str()));
     let option = |name: &str| options.iter().any(|o| o == name);
     let (program, reference) = match words.as_slice() {
@@ -41,7 +41,7 @@ fn compare() -> Result<String, String> {
             let profile = Profile::of(profile).ok_or(USAGE)?;
             seed = number.parse().map_err(|_| USAGE)?;
             let lines = lines.parse().map_err(|_| USAGE)?;
-            generate(profile, seed, lines, !option("--without-zones"), &mut sheet).map_err(|e| e.to_string())?;
+            generate(profile, seed, lines, &mut sheet).map_err(|e| e.to_string())?;
         }
         _ => return Err(USAGE.to_string()),
     }

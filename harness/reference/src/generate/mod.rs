@@ -35,10 +35,9 @@ impl Profile {
     }
 }
 
-/// Write a sheet of so many lines, with or without lines of kind 6.
-pub fn generate(profile: Profile, seed: u64, lines: usize, zones: bool, out: &mut dyn Write) -> io::Result<()> {
+/// Write a sheet of so many lines.
+pub fn generate(profile: Profile, seed: u64, lines: usize, out: &mut dyn Write) -> io::Result<()> {
     let mut g = Generator {
-        zones,
         random: Random::new(seed),
         shuttle: Shuttle::new(),
         answer: [0; ANSWER_FIELDS],
@@ -96,7 +95,6 @@ pub(crate) struct Generator<'a> {
     /// The setpoint and the landing flag of the last flying tick.
     pub setpoint: [f32; 3],
     pub landing: bool,
-    zones: bool,
     damage_one_in: u64,
     left: usize,
     buffer: Vec<u8>,
@@ -180,9 +178,6 @@ impl TickLine {
 impl Generator<'_> {
     /// Write a line and take its answer.
     pub fn bytes(&mut self, line: &[u8]) -> Step {
-        if !self.zones && line.starts_with(b"          6") {
-            return Ok(());
-        }
         if self.left == 0 {
             return Err(End::Enough);
         }
