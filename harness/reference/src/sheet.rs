@@ -16,6 +16,9 @@ pub const ANSWER_FIELDS: usize = 10;
 /// The first blocker where none is.
 pub const NO_BLOCKER: u32 = 21;
 
+/// The names of the modes by their numbers.
+pub const MODES: [&str; 8] = ["Disarmed", "Armed", "Takeoff", "Loiter", "Mission", "Land", "Rtl", "Terminated"];
+
 /// The events by their numbers.
 pub const EVENTS: [Event; 12] = [
     Event::Arm,

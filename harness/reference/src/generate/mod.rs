@@ -11,7 +11,11 @@ use crate::falcon_core::FlightSupervisor;
 use crate::random::Random;
 use crate::relay_fsm::Mode;
 use crate::sheet::{write_fields, Shuttle, ANSWER_FIELDS};
+use std::fmt::{self, Display, Formatter};
 use std::io::{self, Write};
+
+/// Once in so many lines comes one of a megabyte or more, where they are asked for.
+const LONG_ONE_IN: u64 = 20_000;
 
 /// The sort of sheet.
 #[derive(Clone, Copy, Debug, PartialEq, Eq)]
@@ -25,19 +29,27 @@ pub enum Profile {
 }
 
 impl Profile {
+    pub const ALL: [Profile; 3] = [Profile::Wild, Profile::Flight, Profile::Edge];
+
     pub fn of(name: &str) -> Option<Profile> {
-        match name {
-            "wild" => Some(Profile::Wild),
-            "flight" => Some(Profile::Flight),
-            "edge" => Some(Profile::Edge),
-            _ => None,
-        }
+        Profile::ALL.into_iter().find(|profile| profile.to_string() == name)
     }
 }
 
-/// Write a sheet of so many lines.
-pub fn generate(profile: Profile, seed: u64, lines: usize, out: &mut dyn Write) -> io::Result<()> {
+impl Display for Profile {
+    fn fmt(&self, f: &mut Formatter) -> fmt::Result {
+        f.write_str(match self {
+            Profile::Wild => "wild",
+            Profile::Flight => "flight",
+            Profile::Edge => "edge",
+        })
+    }
+}
+
+/// Write a sheet of so many lines; where `long`, lines of a megabyte or more stand among them.
+pub fn generate(profile: Profile, seed: u64, lines: usize, long: bool, out: &mut dyn Write) -> io::Result<()> {
     let mut g = Generator {
+        long: long.then(|| Random::new(!seed)),
         random: Random::new(seed),
         shuttle: Shuttle::new(),
         answer: [0; ANSWER_FIELDS],
@@ -96,6 +108,8 @@ pub(crate) struct Generator<'a> {
     pub setpoint: [f32; 3],
     pub landing: bool,
     damage_one_in: u64,
+    /// Draws the lines of a megabyte or more, by itself, so that the other lines are the same with and without them.
+    long: Option<Random>,
     left: usize,
     buffer: Vec<u8>,
     out: &'a mut dyn Write,
@@ -203,6 +217,9 @@ impl Generator<'_> {
         if self.random.one_in(self.damage_one_in) {
             let damaged = damage::damaged(&mut self.random, numbers, &line);
             self.bytes(&damaged)?;
+        }
+        if let Some(long) = self.long.as_mut().and_then(|r| r.one_in(LONG_ONE_IN).then(|| damage::megabytes(r, &line))) {
+            self.bytes(&long)?;
         }
         self.bytes(&line)
     }
