@@ -57,6 +57,7 @@ pub fn generate(profile: Profile, seed: u64, lines: usize, long: bool, out: &mut
         landing: false,
         damage_one_in: if profile == Profile::Wild { 4 } else { 100 },
         left: lines,
+        written: 0,
         buffer: Vec::new(),
         out,
     };
@@ -111,6 +112,7 @@ pub(crate) struct Generator<'a> {
     /// Draws the lines of a megabyte or more, by itself, so that the other lines are the same with and without them.
     long: Option<Random>,
     left: usize,
+    written: usize,
     buffer: Vec<u8>,
     out: &'a mut dyn Write,
 }
@@ -196,6 +198,7 @@ impl Generator<'_> {
             return Err(End::Enough);
         }
         self.left -= 1;
+        self.written += 1;
         self.answer = self.shuttle.answer(line);
         if self.answer[0] == 0 && self.shuttle.report_due() {
             self.setpoint = [self.answer[5], self.answer[6], self.answer[7]].map(f32::from_bits);
@@ -261,6 +264,11 @@ impl Generator<'_> {
         let mut numbers = vec![6, zones.len() as u32];
         numbers.extend(zones.iter().flatten().map(|x| x.to_bits()));
         self.numbers(&numbers)
+    }
+
+    /// Lines so far.
+    pub fn written(&self) -> usize {
+        self.written
     }
 
     pub fn mode(&self) -> Mode {
