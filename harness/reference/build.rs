@@ -20,9 +20,10 @@ fn main() {
     println!("cargo::rustc-check-cfg=cfg(kani)");
 
     let mut patches = patches_of(&harness.join("patches"));
-    let cover = env::var("CARGO_FEATURE_COVER").is_ok();
-    if cover {
-        patches.extend(patches_of(&harness.join("patches/cover")));
+    for (feature, folder) in [("COVER", "patches/cover"), ("TIMED", "patches/timed")] {
+        if env::var(format!("CARGO_FEATURE_{feature}")).is_ok() {
+            patches.extend(patches_of(&harness.join(folder)));
+        }
     }
     let mut names = Vec::new();
     let mut applied = 0;

@@ -7,21 +7,7 @@ use reference::random::Random;
 use reference::relay_fsafe::{FailsafeAction, FailsafeArbiter, Triggers};
 use reference::relay_fsm::{Event, FlightFsm, Gates, Mode};
 use reference::relay_preflight::{arm_check_table, CheckId, CheckTable, TableVerdict, CHECK_COUNT};
-
-const EVENTS: [Event; 12] = [
-    Event::Arm,
-    Event::RequestTakeoff,
-    Event::RequestMission,
-    Event::RequestLoiter,
-    Event::RequestRtl,
-    Event::RequestLand,
-    Event::RequestDisarm,
-    Event::ReachedAltitude,
-    Event::ReachedHome,
-    Event::Touchdown,
-    Event::Failsafe,
-    Event::Terminate,
-];
+use reference::sheet::EVENTS;
 
 /// Numbers that stand for nothing, where there are `count` of a kind.
 fn beyond(count: u32) -> [u32; 4] {

@@ -1,11 +1,15 @@
 //! The Rust supervisor behind document 01's sheet: the reference that the Rattle program is compared with.
 
+pub mod bench;
 pub mod cases;
 pub mod compare;
 pub mod generate;
 pub mod random;
 pub mod sheet;
 pub mod stand_ins;
+
+#[cfg_attr(feature = "timed", path = "due_split.rs")]
+mod due;
 
 #[cfg(feature = "cover")]
 pub mod cover;

@@ -1,5 +1,6 @@
 //! Document 01's sheet over the Rust supervisor: lines to calls, calls to answers.
 
+use crate::due::{report, tick, Due};
 use crate::falcon_core::{CoreInputs, CoreOutputs, FlightBackend, FlightCore, FlightSupervisor, KeepoutZone, NavState};
 use crate::relay_fsm::{Event, Mode};
 use crate::relay_preflight::CheckTable;
@@ -15,7 +16,11 @@ pub const ANSWER_FIELDS: usize = 10;
 /// The first blocker where none is.
 pub const NO_BLOCKER: u32 = 21;
 
-const EVENTS: [Event; 12] = [
+/// The names of the modes by their numbers.
+pub const MODES: [&str; 8] = ["Disarmed", "Armed", "Takeoff", "Loiter", "Mission", "Land", "Rtl", "Terminated"];
+
+/// The events by their numbers.
+pub const EVENTS: [Event; 12] = [
     Event::Arm,
     Event::RequestTakeoff,
     Event::RequestMission,
@@ -54,13 +59,21 @@ pub struct Tick {
 
 /// What a sheet line asks.
 #[derive(Clone, Debug)]
-pub enum Call {
+pub enum Call<'a> {
     Opening(Opening),
     Tick(Tick),
-    Report { failed: bool },
-    Command { event: Event, level: bool, throttle_low: bool },
-    Points(Vec<[f32; 3]>),
-    Zones(Vec<KeepoutZone>),
+    Report {
+        failed: bool,
+    },
+    Command {
+        event: Event,
+        level: bool,
+        throttle_low: bool,
+    },
+    /// Three numbers each.
+    Points(&'a [u32]),
+    /// Four numbers each.
+    Zones(&'a [u32]),
 }
 
 /// One field: spaces, then a decimal number below 2^32 without leading zeros.
@@ -87,73 +100,88 @@ pub fn read_line(line: &[u8]) -> Option<Vec<u32>> {
     line.chunks_exact(WIDTH).map(read_field).collect()
 }
 
-/// The call of a line, or the first of refusals 2, 3, 4, 5 that fits.
-pub fn read_call(line: &[u8]) -> Result<Call, u32> {
-    let n = read_line(line).ok_or(2u32)?;
-    let f = |i: usize| f32::from_bits(n[i]);
-    let f3 = |i: usize| [f(i), f(i + 1), f(i + 2)];
+/// The float of a number.
+fn float(n: &[u32], i: usize) -> f32 {
+    f32::from_bits(n[i])
+}
+
+/// Three floats from a place on.
+fn vector(n: &[u32], i: usize) -> [f32; 3] {
+    [float(n, i), float(n, i + 1), float(n, i + 2)]
+}
+
+/// The opening of ten numbers, the first of which is not looked at.
+pub fn opening_of(n: &[u32]) -> Opening {
+    Opening {
+        home: vector(n, 1),
+        fence: float(n, 4),
+        cruise: float(n, 5),
+        low_volts: float(n, 6),
+        required: n[7],
+        passed: n[8],
+        calibrated: n[9] == 1,
+    }
+}
+
+/// The tick of eighteen numbers, the first of which is not looked at.
+pub fn tick_of(n: &[u32]) -> Tick {
+    Tick {
+        dt: float(n, 1),
+        core: CoreInputs {
+            nav: NavState { p: vector(n, 2), v: vector(n, 5), tilt: float(n, 8) },
+            uncertainty: float(n, 9),
+            motor: float(n, 10),
+            nav_compromised: n[11] == 1,
+            gnss_diverged: n[12] == 1,
+            failed: n[13] == 1,
+            failed_after_step: false,
+        },
+        rpm: n[14] == 1,
+        volts: (n[15] >= 1).then(|| float(n, 16)),
+        amps: (n[15] == 2).then(|| float(n, 17)),
+    }
+}
+
+/// The call of a line's numbers, of which there is at least one, or the first of refusals 3, 4, 5 that fits.
+pub fn call_of(n: &[u32]) -> Result<Call<'_>, u32> {
     let flag = |i: usize| n[i] <= 1;
-    let set = |i: usize| n[i] == 1;
     let count = |want: u64| if n.len() as u64 == want { Ok(()) } else { Err(4u32) };
     let range = |ok: bool| if ok { Ok(()) } else { Err(5u32) };
     match n[0] {
         1 => {
             count(10)?;
             range(n[7] < 1 << 21 && n[8] < 1 << 21 && flag(9))?;
-            Ok(Call::Opening(Opening {
-                home: f3(1),
-                fence: f(4),
-                cruise: f(5),
-                low_volts: f(6),
-                required: n[7],
-                passed: n[8],
-                calibrated: set(9),
-            }))
+            Ok(Call::Opening(opening_of(n)))
         }
         2 => {
             count(18)?;
             range((11..=14).all(flag) && n[15] <= 2)?;
             range((n[15] >= 1 || n[16] == 0) && (n[15] == 2 || n[17] == 0))?;
-            Ok(Call::Tick(Tick {
-                dt: f(1),
-                core: CoreInputs {
-                    nav: NavState { p: f3(2), v: f3(5), tilt: f(8) },
-                    uncertainty: f(9),
-                    motor: f(10),
-                    nav_compromised: set(11),
-                    gnss_diverged: set(12),
-                    failed: set(13),
-                    failed_after_step: false,
-                },
-                rpm: set(14),
-                volts: (n[15] >= 1).then(|| f(16)),
-                amps: (n[15] == 2).then(|| f(17)),
-            }))
+            Ok(Call::Tick(tick_of(n)))
         }
         3 => {
             count(2)?;
             range(flag(1))?;
-            Ok(Call::Report { failed: set(1) })
+            Ok(Call::Report { failed: n[1] == 1 })
         }
         4 => {
             count(4)?;
             range(n[1] <= 11 && flag(2) && flag(3))?;
-            Ok(Call::Command { event: EVENTS[n[1] as usize], level: set(2), throttle_low: set(3) })
+            Ok(Call::Command { event: EVENTS[n[1] as usize], level: n[2] == 1, throttle_low: n[3] == 1 })
         }
         5 => {
             if n.len() < 2 {
                 return Err(4);
             }
             count(2 + 3 * u64::from(n[1]))?;
-            Ok(Call::Points((0..n[1] as usize).map(|k| f3(2 + 3 * k)).collect()))
+            Ok(Call::Points(&n[2..]))
         }
         6 => {
             if n.len() < 2 {
                 return Err(4);
             }
             count(2 + 4 * u64::from(n[1]))?;
-            let zone = |k: usize| KeepoutZone { center: f3(2 + 4 * k), radius: f(5 + 4 * k) };
-            Ok(Call::Zones((0..n[1] as usize).map(zone).collect()))
+            Ok(Call::Zones(&n[2..]))
         }
         _ => Err(3),
     }
@@ -188,11 +216,11 @@ pub fn answer_bits(x: f32) -> u32 {
     }
 }
 
-/// One shuttle: its supervisor once opened, and while a report is due the supervisor before the tick with that tick.
+/// One shuttle: its supervisor once opened, and while a report is due what the report needs.
 #[derive(Default)]
 pub struct Shuttle {
     supervisor: Option<FlightSupervisor>,
-    due: Option<(FlightSupervisor, Tick)>,
+    due: Option<Due>,
 }
 
 impl Shuttle {
@@ -215,15 +243,12 @@ impl Shuttle {
 
     /// Answer a line.
     pub fn answer(&mut self, line: &[u8]) -> [u32; ANSWER_FIELDS] {
-        match read_call(line) {
-            Ok(call) => self.call(call),
-            Err(refusal) => self.columns(refusal, CoreOutputs::default()),
-        }
+        self.answer_numbers(read_line(line).as_deref())
     }
 
-    /// Answer a call.
-    pub fn call(&mut self, call: Call) -> [u32; ANSWER_FIELDS] {
-        match self.accept(call) {
+    /// Answer a line by its numbers, `None` where refusal 2 fits.
+    pub fn answer_numbers(&mut self, numbers: Option<&[u32]>) -> [u32; ANSWER_FIELDS] {
+        match numbers.ok_or(2).and_then(call_of).and_then(|call| self.accept(call)) {
             Ok(outputs) => self.columns(0, outputs),
             Err(refusal) => self.columns(refusal, CoreOutputs::default()),
         }
@@ -243,36 +268,27 @@ impl Shuttle {
         }
         match call {
             Call::Opening(_) => unreachable!(),
-            Call::Tick(tick) => {
-                let before = supervisor.clone();
-                let outputs = run(supervisor, tick);
-                if !outputs.motors_off {
-                    self.due = Some((before, tick));
-                }
-                Ok(outputs)
+            Call::Tick(inputs) => {
+                self.due = tick(supervisor, inputs);
+                Ok(supervisor.core().outputs)
             }
             Call::Report { failed } => {
-                let (before, mut tick) = self.due.take().ok_or(7u32)?;
-                if failed {
-                    *supervisor = before;
-                    tick.core.failed_after_step = true;
-                    run(supervisor, tick);
-                }
+                report(supervisor, self.due.take().ok_or(7u32)?, failed);
                 Ok(none)
             }
             Call::Command { event, level, throttle_low } => {
                 supervisor.command(event, level, throttle_low);
                 Ok(none)
             }
-            Call::Points(points) => {
-                if supervisor.set_mission_waypoints(&points) {
+            Call::Points(numbers) => {
+                if set_points(supervisor, numbers) {
                     Ok(none)
                 } else {
                     Err(8)
                 }
             }
-            Call::Zones(zones) => {
-                supervisor.set_keepout_zones(&zones);
+            Call::Zones(numbers) => {
+                set_zones(supervisor, numbers);
                 Ok(none)
             }
         }
@@ -290,7 +306,7 @@ impl Shuttle {
 }
 
 /// The supervisor of an opening. Without the calibration flag `set_calibration` is not called: the first tick then reads the flag.
-fn open(o: Opening) -> FlightSupervisor {
+pub fn open(o: Opening) -> FlightSupervisor {
     let table = CheckTable::from_masks(o.required, o.passed);
     let mut supervisor = FlightSupervisor::with_core(FlightCore::default(), o.home, o.fence, o.cruise, o.low_volts, table);
     if o.calibrated {
@@ -299,28 +315,41 @@ fn open(o: Opening) -> FlightSupervisor {
     supervisor
 }
 
-/// One `step` with a tick's inputs.
-fn run(supervisor: &mut FlightSupervisor, mut tick: Tick) -> CoreOutputs {
-    supervisor.core_mut().begin(tick.core);
-    supervisor.step(&mut tick);
-    supervisor.core().outputs
+/// `set_mission_waypoints` with points of three numbers each.
+fn set_points(supervisor: &mut FlightSupervisor, numbers: &[u32]) -> bool {
+    let mut points = [[0.0; 3]; MAX_FIELDS / 3];
+    let chunks = numbers.chunks_exact(3);
+    let count = chunks.len();
+    for (point, n) in points.iter_mut().zip(chunks) {
+        *point = vector(n, 0);
+    }
+    supervisor.set_mission_waypoints(&points[..count])
+}
+
+/// `set_keepout_zones` with zones of four numbers each.
+fn set_zones(supervisor: &mut FlightSupervisor, numbers: &[u32]) {
+    let mut zones = [KeepoutZone { center: [0.0; 3], radius: 0.0 }; MAX_FIELDS / 4];
+    let chunks = numbers.chunks_exact(4);
+    let count = chunks.len();
+    for (zone, n) in zones.iter_mut().zip(chunks) {
+        *zone = KeepoutZone { center: vector(n, 0), radius: float(n, 3) };
+    }
+    supervisor.set_keepout_zones(&zones[..count]);
 }
 
 /// Write numbers as fields, without a newline.
 pub fn write_fields(out: &mut Vec<u8>, numbers: &[u32]) {
-    for &number in numbers {
-        let mut field = [b' '; WIDTH];
+    let start = out.len();
+    out.resize(start + numbers.len() * WIDTH, b' ');
+    for (field, &number) in out[start..].chunks_exact_mut(WIDTH).zip(numbers) {
         let mut n = number;
-        let mut at = WIDTH;
-        loop {
-            at -= 1;
-            field[at] = b'0' + (n % 10) as u8;
+        for digit in field.iter_mut().rev() {
+            *digit = b'0' + (n % 10) as u8;
             n /= 10;
             if n == 0 {
                 break;
             }
         }
-        out.extend_from_slice(&field);
     }
 }
 

@@ -1,21 +1,26 @@
-//! `compare PROGRAM REFERENCE PROFILE SEED LINES [--pieces] [--all] [--without-zones]` runs both programs on a generated sheet and stops
-//! at the first difference. With --pieces the sheet is cut at random places on its way into PROGRAM; with --all it also fails unless
-//! every refusal 1..8 and every mode was answered; with --without-zones the sheet has no line of kind 6. `compare PROGRAM REFERENCE --sheet FILE` takes a sheet from a file.
+//! `compare PROGRAM REFERENCE PROFILE SEED LINES [--pieces] [--long] [--all]` runs both programs on a generated sheet and stops at the first
+//! difference. With --pieces the sheet is cut at random places on its way into PROGRAM; with --long lines of a megabyte or more are put into
+//! it; with --all it also fails unless every refusal 1..8 and every mode was answered. `compare PROGRAM REFERENCE --sheet FILE` takes a sheet
+//! from a file. `compare PROGRAM REFERENCE --scale LINES SEED FIGURES` takes so many lines in sheets of all profiles from a seed on, some
+//! in pieces, some with long lines, and hands them to the program `figures` too.
 
-use reference::compare::{counts, difference, run, since_opening};
-use reference::generate::{generate, Profile};
-use std::process::ExitCode;
+use reference::compare::{compare, Counts, Sheet};
+use reference::generate::Profile;
+use std::io::{self, Write};
+use std::path::Path;
+use std::process::{Command, ExitCode, Stdio};
 use std::{env, fs};
 
-/// Lines shown before a difference.
-const SHOWN: usize = 40;
+const USAGE: &str = "usage: compare PROGRAM REFERENCE wild|flight|edge SEED LINES [--pieces] [--long] [--all]
+       compare PROGRAM REFERENCE --sheet FILE
+       compare PROGRAM REFERENCE --scale LINES SEED FIGURES";
+
+/// Lines of a sheet of --scale.
+const SHEET_LINES: usize = 250_000;
 
 fn main() -> ExitCode {
-    match compare() {
-        Ok(said) => {
-            println!("{said}");
-            ExitCode::SUCCESS
-        }
+    match answer() {
+        Ok(()) => ExitCode::SUCCESS,
         Err(e) => {
             eprintln!("{e}");
             ExitCode::FAILURE
@@ -23,74 +28,78 @@ fn main() -> ExitCode {
     }
 }
 
-fn compare() -> Result<String, String> {
-    const USAGE: &str = "usage: compare PROGRAM REFERENCE wild|flight|edge SEED LINES [--pieces] [--all] [--without-zones]\n       compare PROGRAM REFERENCE --sheet FILE [--pieces]";
-    const OPTIONS: [&str; 3] = ["--pieces", "--all", "--without-zones"];
+fn answer() -> Result<(), String> {
+    const OPTIONS: [&str; 3] = ["--pieces", "--long", "--all"];
     let (options, words): (Vec<String>, Vec<String>) = env::args().skip(1).partition(|a| OPTIONS.contains(&a.as_str()));
     let option = |name: &str| options.iter().any(|o| o == name);
-    let (program, reference) = match words.as_slice() {
-        [program, reference, ..] => (program, reference),
-        _ => return Err(USAGE.to_string()),
-    };
-    let mut sheet = Vec::new();
-    let mut seed = 0;
-    let title = words[2..].join(" ");
-    match &words[2..] {
-        [flag, file] if flag == "--sheet" => sheet = fs::read(file).map_err(|e| format!("{file}: {e}"))?,
-        [profile, number, lines] => {
+    let words: Vec<&str> = words.iter().map(String::as_str).collect();
+    let kept = env::current_exe().map_err(said)?.with_file_name("difference.sheet");
+    match words.as_slice() {
+        [program, reference, "--scale", lines, seed, figures] if options.is_empty() => {
+            let (lines, seed) = (lines.parse().map_err(|_| USAGE)?, seed.parse().map_err(|_| USAGE)?);
+            scale([program, reference], lines, seed, figures, &kept)
+        }
+        [program, reference, "--sheet", file] if options.is_empty() => {
+            let sheet = Sheet::read(file).map_err(|e| format!("{file}: {e}"))?;
+            one([program, reference], &sheet, false, &kept)
+        }
+        [program, reference, profile, seed, lines] => {
             let profile = Profile::of(profile).ok_or(USAGE)?;
-            seed = number.parse().map_err(|_| USAGE)?;
-            let lines = lines.parse().map_err(|_| USAGE)?;
-            generate(profile, seed, lines, !option("--without-zones"), &mut sheet).map_err(|e| e.to_string())?;
+            let (seed, lines) = (seed.parse().map_err(|_| USAGE)?, lines.parse().map_err(|_| USAGE)?);
+            let sheet = Sheet::generated(profile, seed, lines, option("--pieces"), option("--long")).map_err(said)?;
+            one([program, reference], &sheet, option("--all"), &kept)
         }
-        _ => return Err(USAGE.to_string()),
+        _ => Err(USAGE.to_string()),
     }
-    let said = |e: std::io::Error| format!("{title}: {e}");
-    let first = run(program, &sheet, option("--pieces").then_some(seed)).map_err(said)?;
-    let second = run(reference, &sheet, None).map_err(said)?;
-    if let Some(d) = difference(&first, &second) {
-        let plain = d.first.map(shown) == d.second.map(shown);
-        let text = |line: Option<&[u8]>| match line {
-            None => "(no line)".to_string(),
-            Some(line) if plain => format!("{:?}", String::from_utf8_lossy(line)),
-            Some(line) => shown(line),
-        };
-        let (from, lines) = since_opening(&sheet, d.line);
-        let mut out = format!("{title}: line {} differs\n", d.line + 1);
-        out += &format!("  {program}: {}\n  {reference}: {}\n", text(d.first), text(d.second));
-        let kept = env::current_exe().map_err(said)?.with_file_name("difference.sheet");
-        let hidden = lines.len().saturating_sub(SHOWN);
-        out += &format!("lines {} to {} since the last opening", from + 1, from + lines.len());
-        if hidden > 0 {
-            out += &format!(" (the first and the last {SHOWN})");
-            out += &format!("\n  {}: {}", from + 1, shown(lines[0]));
-        }
-        for (k, line) in lines.iter().enumerate().skip(hidden) {
-            out += &format!("\n  {}: {}", from + k + 1, shown(line));
-        }
-        let mut whole = lines.join(&b'\n');
-        whole.push(b'\n');
-        fs::write(&kept, whole).map_err(said)?;
-        out += &format!("\nall of them: {}", kept.display());
-        return Err(out);
-    }
-    let (refusals, modes) = counts(&second);
-    let lines = second.iter().filter(|&&b| b == b'\n').count();
-    let report = format!("{title}: {lines} lines alike; refusals 0..8: {:?}; modes 0..7: {modes:?}", &refusals[..9]);
-    if option("--all") && refusals[1..9].iter().chain(&modes).any(|&n| n == 0) {
-        return Err(format!("{report}\na refusal or a mode was not answered"));
-    }
-    Ok(report)
 }
 
-/// A line without the padding between fields, cut where it is long.
-fn shown(line: &[u8]) -> String {
-    let whole = String::from_utf8_lossy(line).into_owned();
-    let numbers = line.len() % 11 == usize::from(line.ends_with(b"\n")) && line.iter().all(|b| b.is_ascii_digit() || b" \n".contains(b));
-    let text = if numbers { whole.split_whitespace().collect::<Vec<_>>().join(" ") } else { format!("{:?}", whole) };
-    if text.len() > 300 {
-        let end = (0..=300).rev().find(|&i| text.is_char_boundary(i)).unwrap_or(0);
-        return format!("{} ... ({} bytes)", &text[..end], line.len());
+fn said(e: io::Error) -> String {
+    format!("compare: {e}")
+}
+
+/// One sheet.
+fn one(programs: [&str; 2], sheet: &Sheet, all: bool, kept: &Path) -> Result<(), String> {
+    let counts = compare(programs, sheet, kept)?;
+    let Counts { lines, refusals, modes, .. } = &counts;
+    println!("{}: {lines} lines alike; refusals 0..8: {:?}; modes 0..7: {modes:?}", sheet.title, &refusals[..9]);
+    if all && !counts.has_all() {
+        return Err(format!("{}: a refusal or a mode was not answered", sheet.title));
     }
-    text
+    Ok(())
+}
+
+/// Sheets of all profiles from a seed on, of each seed one of each; seeds are in turn as they are, in pieces, with long lines, and both.
+fn scale(programs: [&str; 2], lines: usize, first_seed: u64, figures: &str, kept: &Path) -> Result<(), String> {
+    let mut counter = Command::new(figures).stdin(Stdio::piped()).stdout(Stdio::piped()).spawn().map_err(said)?;
+    let mut counted = counter.stdin.take().expect("piped");
+    let (mut total, mut sheets, mut cut, mut long, mut bytes) = (Counts::default(), 0u64, 0, 0, 0);
+    let is_long = |line: &&[u8]| line.len() >= 1_000_000;
+    let mut left = lines;
+    while left > 0 {
+        let (turn, profile) = (sheets / 3, Profile::ALL[sheets as usize % 3]);
+        let (pieces, with_long) = (turn % 4 % 2 == 1, turn % 4 >= 2);
+        let sheet = Sheet::generated(profile, first_seed + turn, left.min(SHEET_LINES), pieces, with_long).map_err(said)?;
+        let counts = compare(programs, &sheet, kept)?;
+        println!("{}: {} lines, {} bytes alike", sheet.title, counts.lines, sheet.bytes.len());
+        counted.write_all(&sheet.bytes).map_err(|e| format!("{figures}: {e}"))?;
+        left -= left.min(SHEET_LINES);
+        total.add(&counts);
+        sheets += 1;
+        cut += u64::from(pieces);
+        long += sheet.bytes.split(|&b| b == b'\n').filter(is_long).count();
+        bytes += sheet.bytes.len();
+    }
+    drop(counted);
+    let output = counter.wait_with_output().map_err(said)?.stdout;
+    let branches = kept.with_file_name("figures.txt");
+    fs::write(&branches, &output).map_err(said)?;
+    println!(
+        "{sheets} sheets of wild, flight and edge, seeds {first_seed} to {}: {} lines, {bytes} bytes, no difference",
+        first_seed + sheets.saturating_sub(1) / 3,
+        total.lines
+    );
+    println!("{cut} sheets cut at random places, {long} lines of a megabyte or more\n{total}");
+    let last = String::from_utf8_lossy(&output).lines().last().unwrap_or("no figures").to_string();
+    println!("{last} ({})", branches.display());
+    Ok(())
 }

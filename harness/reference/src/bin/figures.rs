@@ -2,11 +2,10 @@
 //! It fails if a branch is not reached that can be reached, or if one is that cannot.
 
 use reference::cover;
-use reference::sheet::{each_line, Shuttle};
+use reference::sheet::{each_line, Shuttle, MODES};
 use std::io;
 use std::process::ExitCode;
 
-const MODES: [&str; 8] = ["Disarmed", "Armed", "Takeoff", "Loiter", "Mission", "Land", "Rtl", "Terminated"];
 const EVENTS: [&str; 12] = [
     "Arm",
     "RequestTakeoff",

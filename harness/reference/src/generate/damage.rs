@@ -177,7 +177,23 @@ fn too_long(r: &mut Random, line: &[u8]) -> Vec<u8> {
         2..=9 => 1_430,
         _ => 1_420 + r.below(33) as usize,
     };
-    let mut long = Vec::with_capacity(length);
+    of_length(r, line, length)
+}
+
+/// A line of a megabyte to three, now and then of a whole number of fields or of buffers of 64 KiB.
+pub fn megabytes(r: &mut Random, line: &[u8]) -> Vec<u8> {
+    let length = 1_000_000 + r.below(2_000_000) as usize;
+    let length = match r.below(4) {
+        0 => length / 11 * 11,
+        1 => (length / 65_536 + 1) * 65_536 - r.below(3) as usize,
+        _ => length,
+    };
+    of_length(r, line, length)
+}
+
+/// A line of so many bytes: sound lines and fields one after the other.
+fn of_length(r: &mut Random, line: &[u8], length: usize) -> Vec<u8> {
+    let mut long = Vec::with_capacity(length + line.len());
     while long.len() < length {
         match r.below(3) {
             0 => long.extend_from_slice(line),

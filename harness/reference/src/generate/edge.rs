@@ -5,10 +5,17 @@ use crate::relay_batt::BatteryEstimator;
 use crate::relay_fsm::Mode;
 use crate::relay_preflight::CheckId;
 
+/// Lines after which the later scenarios come too: the sheets of crates/rows are shorter and do not change with them.
+const LATER: usize = 1_000;
+
 /// One scenario, begun by an opening of its own.
 pub fn scenario(g: &mut Generator) -> Step {
-    match g.random.below(28) {
-        0 => takeoff_height(g),
+    let scenarios = if g.written() < LATER { 28 } else { 33 };
+    match g.random.below(scenarios) {
+        0 => {
+            let o = plain(g);
+            takeoff_height(g, o)
+        }
         1 => home_distances(g),
         2 => touchdown(g),
         3 => legs(g),
@@ -30,7 +37,15 @@ pub fn scenario(g: &mut Generator) -> Step {
         24 => every_event(g),
         25 => up_and_down(g),
         26 => volts_shown(g),
-        _ => critical_near_ground(g),
+        27 => critical_near_ground(g),
+        28 => {
+            let cruise = g.random.between(0.0, 60.0);
+            takeoff_height(g, OpeningLine { cruise, ..PLAIN })
+        }
+        29 => far_points(g),
+        30 => wind_runs_on(g),
+        31 => latch_runs_on(g),
+        _ => goal_at_hand(g),
     }
 }
 
@@ -126,8 +141,7 @@ fn between(g: &mut Generator) -> Step {
     }
 }
 
-fn takeoff_height(g: &mut Generator) -> Step {
-    let o = plain(g);
+fn takeoff_height(g: &mut Generator, o: OpeningLine) -> Step {
     enter(g, o, Mode::Takeoff)?;
     for _ in 0..4 {
         let mut tick = AWAY;
@@ -311,6 +325,39 @@ fn down_and_up(g: &mut Generator) -> Step {
         g.command(event)?;
     }
     Ok(())
+}
+
+/// Windy ticks in Rtl, and a flight after it by commands alone, in which the count runs on.
+fn wind_runs_on(g: &mut Generator) -> Step {
+    let o = plain(g);
+    enter(g, o, Mode::Rtl)?;
+    let windy = TickLine { p: [o.home[0] + 5.0, o.home[1], -5.0], tilt: 0.5, motor: 1.0, ..AWAY };
+    for _ in 0..g.random.pick(&[123, 124, 125, 130]) {
+        g.fly(&windy, false)?;
+    }
+    down_and_up(g)?;
+    for _ in 0..3 {
+        g.fly(&windy, false)?;
+    }
+    Ok(())
+}
+
+/// A breach, and by commands alone on to Armed, where a tick leaves the latch as it is; after one in Disarmed it is cleared.
+fn latch_runs_on(g: &mut Generator) -> Step {
+    let mut o = plain(g);
+    o.required = 1 << 18;
+    o.passed = o.required;
+    enter(g, o, Mode::Takeoff)?;
+    g.fly(&TickLine { p: [o.home[0] + 200.0, o.home[1], -5.0], ..AWAY }, false)?;
+    g.command(event::LAND)?;
+    g.command(event::TOUCHDOWN)?;
+    if g.random.one_in(3) {
+        g.fly(&AWAY, false)?;
+    }
+    g.command(event::ARM)?;
+    g.fly(&AWAY, false)?;
+    g.command(event::TAKEOFF)?;
+    g.fly(&AWAY, false)
 }
 
 fn silence(g: &mut Generator) -> Step {
@@ -517,6 +564,20 @@ fn points(g: &mut Generator) -> Step {
     Ok(())
 }
 
+/// A fence without a limit, or nearly, and points at no finite place, or far away.
+fn far_points(g: &mut Generator) -> Step {
+    let mut o = plain(g);
+    o.fence = g.random.pick(&[f32::INFINITY, f32::INFINITY, f32::MAX, 1.0e30]);
+    enter(g, o, Mode::Disarmed)?;
+    for _ in 0..6 {
+        let mut point = [o.home[0], o.home[1], o.home[2] - 10.0];
+        let k = g.random.below(3) as usize;
+        point[k] = g.random.pick(&[f32::INFINITY, f32::NEG_INFINITY, f32::NAN, f32::MAX, 1.0e18]);
+        g.points(&[point])?;
+    }
+    Ok(())
+}
+
 /// A zone whose test changes at a place along a line, for the last setpoint.
 fn zones(g: &mut Generator) -> Step {
     let o = plain(g);
@@ -575,6 +636,21 @@ fn zones(g: &mut Generator) -> Step {
         if !g.mode().is_airborne() {
             break;
         }
+    }
+    Ok(())
+}
+
+/// A goal about a millimetre away, the least distance that is divided by, and a zone beyond it whose safe ring begins about there.
+fn goal_at_hand(g: &mut Generator) -> Step {
+    enter(g, PLAIN, Mode::Takeoff)?;
+    let at = |away: f32| TickLine { p: [-away, 0.0, -5.0], ..AWAY };
+    g.fly(&at(0.0), false)?;
+    for _ in 0..6 {
+        let away = if g.random.one_in(2) { float::nudged(&mut g.random, 1.0e-3, 2) } else { g.random.between(0.8e-3, 1.3e-3) };
+        let radius = g.random.pick(&[0.0, 0.5, 2.0]);
+        let reach = (radius + 1.6) * g.random.between(0.95, 1.2);
+        g.zones(&[[reach - away, 0.0, 0.0, radius]])?;
+        g.fly(&at(away), false)?;
     }
     Ok(())
 }

@@ -11,7 +11,11 @@ use crate::falcon_core::FlightSupervisor;
 use crate::random::Random;
 use crate::relay_fsm::Mode;
 use crate::sheet::{write_fields, Shuttle, ANSWER_FIELDS};
+use std::fmt::{self, Display, Formatter};
 use std::io::{self, Write};
+
+/// Once in so many lines comes one of a megabyte or more, where they are asked for.
+const LONG_ONE_IN: u64 = 20_000;
 
 /// The sort of sheet.
 #[derive(Clone, Copy, Debug, PartialEq, Eq)]
@@ -25,20 +29,27 @@ pub enum Profile {
 }
 
 impl Profile {
+    pub const ALL: [Profile; 3] = [Profile::Wild, Profile::Flight, Profile::Edge];
+
     pub fn of(name: &str) -> Option<Profile> {
-        match name {
-            "wild" => Some(Profile::Wild),
-            "flight" => Some(Profile::Flight),
-            "edge" => Some(Profile::Edge),
-            _ => None,
-        }
+        Profile::ALL.into_iter().find(|profile| profile.to_string() == name)
     }
 }
 
-/// Write a sheet of so many lines, with or without lines of kind 6.
-pub fn generate(profile: Profile, seed: u64, lines: usize, zones: bool, out: &mut dyn Write) -> io::Result<()> {
+impl Display for Profile {
+    fn fmt(&self, f: &mut Formatter) -> fmt::Result {
+        f.write_str(match self {
+            Profile::Wild => "wild",
+            Profile::Flight => "flight",
+            Profile::Edge => "edge",
+        })
+    }
+}
+
+/// Write a sheet of so many lines; where `long`, lines of a megabyte or more stand among them.
+pub fn generate(profile: Profile, seed: u64, lines: usize, long: bool, out: &mut dyn Write) -> io::Result<()> {
     let mut g = Generator {
-        zones,
+        long: long.then(|| Random::new(!seed)),
         random: Random::new(seed),
         shuttle: Shuttle::new(),
         answer: [0; ANSWER_FIELDS],
@@ -46,6 +57,7 @@ pub fn generate(profile: Profile, seed: u64, lines: usize, zones: bool, out: &mu
         landing: false,
         damage_one_in: if profile == Profile::Wild { 4 } else { 100 },
         left: lines,
+        written: 0,
         buffer: Vec::new(),
         out,
     };
@@ -96,9 +108,11 @@ pub(crate) struct Generator<'a> {
     /// The setpoint and the landing flag of the last flying tick.
     pub setpoint: [f32; 3],
     pub landing: bool,
-    zones: bool,
     damage_one_in: u64,
+    /// Draws the lines of a megabyte or more, by itself, so that the other lines are the same with and without them.
+    long: Option<Random>,
     left: usize,
+    written: usize,
     buffer: Vec<u8>,
     out: &'a mut dyn Write,
 }
@@ -180,13 +194,11 @@ impl TickLine {
 impl Generator<'_> {
     /// Write a line and take its answer.
     pub fn bytes(&mut self, line: &[u8]) -> Step {
-        if !self.zones && line.starts_with(b"          6") {
-            return Ok(());
-        }
         if self.left == 0 {
             return Err(End::Enough);
         }
         self.left -= 1;
+        self.written += 1;
         self.answer = self.shuttle.answer(line);
         if self.answer[0] == 0 && self.shuttle.report_due() {
             self.setpoint = [self.answer[5], self.answer[6], self.answer[7]].map(f32::from_bits);
@@ -208,6 +220,9 @@ impl Generator<'_> {
         if self.random.one_in(self.damage_one_in) {
             let damaged = damage::damaged(&mut self.random, numbers, &line);
             self.bytes(&damaged)?;
+        }
+        if let Some(long) = self.long.as_mut().and_then(|r| r.one_in(LONG_ONE_IN).then(|| damage::megabytes(r, &line))) {
+            self.bytes(&long)?;
         }
         self.bytes(&line)
     }
@@ -249,6 +264,11 @@ impl Generator<'_> {
         let mut numbers = vec![6, zones.len() as u32];
         numbers.extend(zones.iter().flatten().map(|x| x.to_bits()));
         self.numbers(&numbers)
+    }
+
+    /// Lines so far.
+    pub fn written(&self) -> usize {
+        self.written
     }
 
     pub fn mode(&self) -> Mode {
