@@ -3,11 +3,6 @@
 /// The numbers that a battery is: the pack 0..7, the estimator 8..16, what is shown 17..25, the silence and two flags 26..28.
 pub const BATTERY_SIZE: usize = 29;
 
-/// The numbers of an opening, of a tick's record and of its answer in `ticks`.
-pub const OPENING_SIZE: usize = 10;
-pub const RECORD_SIZE: usize = 18;
-pub const TICKED_SIZE: usize = 7;
-
 /// The answer where a number stands for nothing.
 pub const UNKNOWN: u32 = u32::MAX;
 
@@ -28,14 +23,6 @@ mod linked {
         pub fn bartsemmo_blocker(required: u32, passed: u32) -> u32;
         pub fn bartsemmo_battery_new(numbers: *mut u32, length: usize) -> u32;
         pub fn bartsemmo_battery_update(numbers: *mut u32, length: usize, dt: u32, kind: u32, volts: u32, amps: u32) -> u32;
-        pub fn bartsemmo_ticks(
-            opening: *const u32,
-            opening_length: usize,
-            records: *const u32,
-            records_length: usize,
-            answers: *mut u32,
-            answers_length: usize,
-        ) -> u32;
     }
 }
 
@@ -78,14 +65,4 @@ pub fn battery_new(numbers: &mut [u32]) -> u32 {
 pub fn battery_update(numbers: &mut [u32], dt: u32, kind: u32, volts: u32, amps: u32) -> u32 {
     // SAFETY: total, and touches the slice alone.
     unsafe { linked::bartsemmo_battery_update(numbers.as_mut_ptr(), numbers.len(), dt, kind, volts, amps) }
-}
-
-/// Ticks a flight from an opening, as a sheet's line has it, over records of eighteen numbers: an event to command first with its gates
-/// open, or none where it is above 11, then a sheet's tick after its kind. Each answer is seven numbers: mode, landing, motors off, rearm
-/// and the setpoint, zero where motors are off. 1 where a slice has another length, and then nothing changes.
-pub fn ticks(opening: &[u32], records: &[u32], answers: &mut [u32]) -> u32 {
-    // SAFETY: total, reads the first two slices and writes the third alone.
-    unsafe {
-        linked::bartsemmo_ticks(opening.as_ptr(), opening.len(), records.as_ptr(), records.len(), answers.as_mut_ptr(), answers.len())
-    }
 }

@@ -97,20 +97,23 @@ fn time(program: &str, sheet: &str) -> io::Result<Times> {
     Ok(Times { wall, processor: seconds(usage.user) + seconds(usage.system) })
 }
 
-/// The greatest resident memory of a program in kB: read when it has the whole sheet and waits for more.
+/// The greatest resident memory of a program in kB: read until it has the whole sheet and waits for more, or has ended.
 fn peak_memory(program: &str, sheet: &[u8]) -> io::Result<u64> {
     let mut child = Command::new(program).stdin(Stdio::piped()).stdout(Stdio::null()).spawn()?;
     let mut input = child.stdin.take().expect("piped");
     input.write_all(sheet)?;
     let mut asleep = 0;
-    let mut status = String::new();
+    let mut peak = None;
     while asleep < 50 {
         thread::sleep(Duration::from_millis(2));
-        status = fs::read_to_string(format!("/proc/{}/status", child.id()))?;
+        let status = fs::read_to_string(format!("/proc/{}/status", child.id()))?;
+        if status.contains("\nState:\tZ") {
+            break;
+        }
         asleep = if status.contains("\nState:\tS") { asleep + 1 } else { 0 };
+        peak = status.lines().find_map(|line| line.strip_prefix("VmHWM:")?.trim().strip_suffix(" kB")?.parse().ok()).or(peak);
     }
     drop(input);
     child.wait()?;
-    let figure = status.lines().find_map(|line| line.strip_prefix("VmHWM:")?.trim().strip_suffix(" kB")?.parse().ok());
-    figure.ok_or_else(|| io::Error::other("no VmHWM in /proc"))
+    peak.ok_or_else(|| io::Error::other("no VmHWM in /proc"))
 }
