@@ -10,6 +10,7 @@ use Rattle.relay_fsm.specs.declared.Mode.the-variants.{Disarmed, Armed, Takeoff
 use Rattle.relay_fsm.specs.declared.Event.{Event}
 use Rattle.relay_fsm.specs.declared.Event.the-variants.{ReachedAltitude, ReachedHome, Touchdown, RequestRtl}
 use Rattle.relay_fsm.specs.Mode.{isMode}
+use Rattle.relay_fsm.specs.Fsm.{onOf}
 use Rattle.falcon_guidance.specs.declared.state.Point.{Point}
 use Rattle.falcon_guidance.specs.declared.state.Config.{Config}
 use Rattle.falcon_guidance.specs.declared.state.Tick.{Tick}
@@ -18,7 +19,7 @@ use Rattle.falcon_failsafe.specs.declared.state.FlightSupervisor.{FlightSupervi
 use Rattle.falcon_failsafe.specs.State.{withMode, withMission}
 use Rattle.falcon_guidance.specs.Geometry.{distanceOf}
 use Rattle.falcon_guidance.specs.Mission.{currentWaypointOf}
-use Rattle.falcon_failsafe.specs.Failsafe.{modeAfter}
+use Rattle.falcon_failsafe.specs.Failsafe.{inFlight, modeAfter}
 use Rattle.falcon_flight.specs.declared.milestone.Reached.{Reached}
 
 -- the limits 0.2, 0.4 and 0.15 of `step`, and `WAYPOINT_RADIUS` 1.2
@@ -109,6 +110,14 @@ milestoneBy m c s high home ground p =
 unfoldable pub milestoneIn : Mode → Config → MissionState → Float → Point → Reached
 milestoneIn m c s home p =
     let height = neg (p .z) in milestoneBy m c s (highAt (c .«cruise_alt») height) (nearHomeAt home) (nearGroundAt height) p
+
+-- a waypoint reached in Mission: the next leg, or the return after the last
+unfoldable pub advancedOf : FlightSupervisor → FlightSupervisor
+advancedOf f =
+    cond (moreOf (f .mission))
+    (withMission f
+    (record { waypoints = f .mission .waypoints; «wp_count» = f .mission .«wp_count»; «wp_index» = f .mission .«wp_index» + 1 }))
+    (withMode f (onOf (f .fsm .mode) RequestRtl inFlight) (f .«rtl_latched»))
 
 -- the milestone paragraph
 unfoldable pub milestoneOf : FlightSupervisor → Tick → FlightSupervisor
