@@ -34,8 +34,8 @@ impl Sheet {
         Ok(Sheet { title, bytes, pieces: pieces.then_some(seed) })
     }
 
-    pub fn read(file: &str) -> io::Result<Sheet> {
-        Ok(Sheet { title: file.to_string(), bytes: fs::read(file)?, pieces: None })
+    pub fn read(file: &str, pieces: bool) -> io::Result<Sheet> {
+        Ok(Sheet { title: file.to_string(), bytes: fs::read(file)?, pieces: pieces.then_some(0) })
     }
 }
 

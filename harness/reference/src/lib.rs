@@ -1,10 +1,5 @@
 //! The Rust supervisor behind document 01's sheet: the reference that the Rattle program is compared with.
 
-pub mod bench;
-pub mod cases;
-pub mod compare;
-pub mod generate;
-pub mod random;
 pub mod sheet;
 pub mod stand_ins;
 
@@ -13,6 +8,18 @@ mod due;
 
 #[cfg(feature = "cover")]
 pub mod cover;
+
+// What `timed` needs nothing of.
+#[cfg(not(feature = "timed"))]
+pub mod bench;
+#[cfg(not(feature = "timed"))]
+pub mod cases;
+#[cfg(not(feature = "timed"))]
+pub mod compare;
+#[cfg(not(feature = "timed"))]
+pub mod generate;
+#[cfg(not(feature = "timed"))]
+pub mod random;
 
 include!(concat!(env!("OUT_DIR"), "/mod_relay_fsm.rs"));
 include!(concat!(env!("OUT_DIR"), "/mod_relay_fsafe.rs"));

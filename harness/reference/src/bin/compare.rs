@@ -1,7 +1,7 @@
 //! `compare PROGRAM REFERENCE PROFILE SEED LINES [--pieces] [--long] [--all]` runs both programs on a generated sheet and stops at the first
 //! difference. With --pieces the sheet is cut at random places on its way into PROGRAM; with --long lines of a megabyte or more are put into
 //! it; with --all it also fails unless every refusal 1..8 and every mode was answered. `compare PROGRAM REFERENCE --sheet FILE` takes a sheet
-//! from a file. `compare PROGRAM REFERENCE --scale LINES SEED FIGURES` takes so many lines in sheets of all profiles from a seed on, some
+//! from a file, and --pieces and --all too. `compare PROGRAM REFERENCE --scale LINES SEED FIGURES` takes so many lines in sheets of all profiles from a seed on, some
 //! in pieces, some with long lines, and hands them to the program `figures` too.
 
 use reference::compare::{compare, Counts, Sheet};
@@ -12,7 +12,7 @@ use std::process::{Command, ExitCode, Stdio};
 use std::{env, fs};
 
 const USAGE: &str = "usage: compare PROGRAM REFERENCE wild|flight|edge SEED LINES [--pieces] [--long] [--all]
-       compare PROGRAM REFERENCE --sheet FILE
+       compare PROGRAM REFERENCE --sheet FILE [--pieces] [--all]
        compare PROGRAM REFERENCE --scale LINES SEED FIGURES";
 
 /// Lines of a sheet of --scale.
@@ -39,9 +39,9 @@ fn answer() -> Result<(), String> {
             let (lines, seed) = (lines.parse().map_err(|_| USAGE)?, seed.parse().map_err(|_| USAGE)?);
             scale([program, reference], lines, seed, figures, &kept)
         }
-        [program, reference, "--sheet", file] if options.is_empty() => {
-            let sheet = Sheet::read(file).map_err(|e| format!("{file}: {e}"))?;
-            one([program, reference], &sheet, false, &kept)
+        [program, reference, "--sheet", file] if !option("--long") => {
+            let sheet = Sheet::read(file, option("--pieces")).map_err(|e| format!("{file}: {e}"))?;
+            one([program, reference], &sheet, option("--all"), &kept)
         }
         [program, reference, profile, seed, lines] => {
             let profile = Profile::of(profile).ok_or(USAGE)?;

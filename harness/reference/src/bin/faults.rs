@@ -230,7 +230,7 @@ fn sheets(cases: &Path) -> Result<Vec<(Sheet, Vec<u8>)>, String> {
     let mut files: Vec<PathBuf> = folder.filter_map(|entry| Some(entry.ok()?.path())).collect();
     files.sort();
     for file in files.iter().filter(|f| f.extension().is_some_and(|e| e == "sheet")) {
-        let mut sheet = Sheet::read(&file.display().to_string()).map_err(|e| e.to_string())?;
+        let mut sheet = Sheet::read(&file.display().to_string(), false).map_err(|e| e.to_string())?;
         sheet.title = format!("case {}", file.file_stem().unwrap_or_default().to_string_lossy());
         sheets.push(sheet);
     }
