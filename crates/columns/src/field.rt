@@ -56,18 +56,11 @@ fn skip_spaces(line: &[u8], at: usize, end: usize) -> usize
     i
 }
 
-// A byte as a number of eight bytes.
-fn wide(b: u8) -> u64
-    ensures { λ r. ⌜ r ≡ b ⌝ }
-{
-    b as u64
-}
-
 // The number of a digit, or at least 10.
 fn digit(b: u8) -> u64
     ensures { λ r. ⌜ DigitOf b r ⌝ }
 {
-    wide(std::num::wrapping_sub_u8(b, b'0'))
+    std::num::wrapping_sub_u8(b, b'0') as u64
 }
 
 // The number that the bytes from `from` to `end` write in decimal, or NUMBER_LIMIT.
@@ -112,7 +105,7 @@ fn two(line: &[u8], at: usize) -> u64
     requires { ⌜ at + 2 ≤ length (now line) ⌝ }
     ensures { λ r. ⌜ (r ≡ twoAt (now (line .entry)) at) × (r < 65536) ⌝ }
 {
-    wide(line[at]) + wide(line[at + 1]) * 256
+    (line[at] as u64) + (line[at + 1] as u64) * 256
 }
 
 // Eight bytes as a number.

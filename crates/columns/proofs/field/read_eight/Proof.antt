@@ -1,5 +1,5 @@
 -- `read_eight` reads eight digits at once: two tests show that each byte is one, and three steps join them.
-use Prim.Native.Nat.{ℕ, _+_, _-_, _*_, _/_, _≤_}
+use Prim.Native.Nat.{_+_, _-_, _*_, _/_, _≤_}
 use native.Mathlib.Omega.{arith}
 use mathlib.Core.Path.{_∙_}
 use lib.Bits.{and-le-l, and-le-r}

@@ -1,5 +1,4 @@
 -- `read_field` says what `read_value` found.
-use mathlib.Core.Path.{sym, _∙_}
 use borrow.Author.Needs.{needs}
 use borrow.Author.Tests.{lt-ltb, le-ltb}
 use Rattle.columns.specs.Field.{inRange}

@@ -1,5 +1,4 @@
 -- `write_field` writes the digits from the last to the first into spaces, two a turn.
-use Prim.Native.Nat.{_≤_}
 use native.Mathlib.Omega.{arith}
 use mathlib.Core.Path.{_≡_, _∙_}
 use lib.ListN.{length, length-set}
