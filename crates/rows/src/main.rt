@@ -78,8 +78,8 @@ fn replay_all(head: &mut [u8], sheet: &mut [u8], out: &mut [u8]) {
 // Refusal 9's example, a buffer of 109 bytes: its number, and the buffer as it was.
 fn short_buffer() {
     let mut out = [b'?'; 109];
-    let outcome = answer(Supervisor::new(), b"12", &mut out);
-    io::print_decimal(STDOUT_FILENO, outcome.refusal as u64);
+    let answered = answer(Supervisor::new(), b"12", &mut out);
+    io::print_decimal(STDOUT_FILENO, answered.answer.refusal as u64);
     io::write_all(STDOUT_FILENO, b"\n");
     io::write_all(STDOUT_FILENO, &out);
     io::write_all(STDOUT_FILENO, b"\n");

@@ -5,7 +5,7 @@ use mathlib.Core.List.{List, _++_}
 use borrow.Author.Tests.{lt-ltb, le-ltb}
 use lib.ListN.{length, drop}
 use Rattle.falcon_core.specs.declared.state.Supervisor.{Supervisor}
-use Rattle.falcon_core.specs.Calls.{answerOf, refusedOf, numbersOf}
+use Rattle.falcon_core.specs.Calls.{refusedOf, numbersOf}
 use Rattle.columns.specs.Line.{answerWidth, lineOf, writtenOver}
 use Rattle.requests.specs.Kinds.{answeredBy}
 use Rattle.requests.specs.Line.{askedLine}
@@ -14,17 +14,9 @@ use Rattle.sheet.specs.Entry.{shortBuffer, askedWith, lineStep, replyOf,
 
 -- under 110 bytes of buffer
 module _ (s : Supervisor) (line out : List ℕ) (h : length out < answerWidth) where
-  short-step : lineStep s line out ≡ refusedOf s shortBuffer
+  pub short-step : lineStep s line out ≡ refusedOf s shortBuffer
   unfolding lineStep askedWith
   short-step = simp (lt-ltb (length out) answerWidth h)
-
-  pub short-state : s ≡ lineStep s line out .supervisor
-  unfolding refusedOf
-  short-state = simp short-step
-
-  pub short-refusal : shortBuffer ≡ lineStep s line out .answer .refusal
-  unfolding refusedOf answerOf
-  short-refusal = simp short-step
 
   pub short-buffer : out ≡ bufferAfter s line out
   unfolding bufferAfter

@@ -6,17 +6,13 @@ ghost use Rattle.sheet.specs.Entry.{lineStep, bufferAfter};
 use columns::field::write_numbers;
 use columns::line::ANSWER;
 use falcon_core::calls::Answer;
+use falcon_core::calls::Answered;
+use falcon_core::calls::refused;
 use falcon_core::state::Supervisor;
 use requests::line::step;
 
 // 9: the answer buffer is too short.
 pub const SHORT_BUFFER: u32 = 9;
-
-// The state after a call by line, and its refusal.
-pub struct Outcome {
-    pub supervisor: Supervisor,
-    pub refusal: u32,
-}
 
 // The answer's fields at the start of the buffer, where it has room for them.
 fn write_answer(out: &mut [u8], a: Answer)
@@ -27,24 +23,16 @@ fn write_answer(out: &mut [u8], a: Answer)
 }
 
 // Answers a line. Under 110 bytes of buffer nothing is written and the refusal is 9.
-pub fn answer(s: Supervisor, line: &[u8], out: &mut [u8]) -> Outcome
-    ensures state { λ r. ⌜ r .supervisor ≡ lineStep s (now (line .entry)) (now (out .entry)) .supervisor ⌝ }
-    ensures refusal { λ r. ⌜ r .refusal ≡ lineStep s (now (line .entry)) (now (out .entry)) .answer .refusal ⌝ }
+pub fn answer(s: Supervisor, line: &[u8], out: &mut [u8]) -> Answered
+    ensures answered { λ r. ⌜ r ≡ lineStep s (now (line .entry)) (now (out .entry)) ⌝ }
     ensures buffer { λ _. ⌜ now (out .exit) ≡ bufferAfter s (now (line .entry)) (now (out .entry)) ⌝ }
     ensures unchanged { λ _. ⌜ now (line .exit) ≡ now (line .entry) ⌝ }
 {
     if out.len() < ANSWER {
-        return Outcome {
-            supervisor: s,
-            refusal: SHORT_BUFFER,
-        };
+        return refused(s, SHORT_BUFFER);
     }
     let answered = step(s, line);
     let a = answered.answer;
-    let supervisor = answered.supervisor;
     write_answer(out, a);
-    Outcome {
-        supervisor,
-        refusal: a.refusal,
-    }
+    answered
 }

@@ -37,9 +37,9 @@ fn answer_at(
     ensures { λ r. ⌜ r ≡ afterLine s (take (end - from) (drop from (now (input .entry)))) ⌝ }
     ensures { λ _. ⌜ now (out .exit) ≡ put (now (out .entry)) at (replyLine s (take (end - from) (drop from (now (input .entry)))) ++ (newline ∷ [])) ⌝ }
 {
-    let outcome = answer(s, &input[from..end], &mut out[at..]);
+    let answered = answer(s, &input[from..end], &mut out[at..]);
     out[at + ANSWER] = b'\n';
-    outcome.supervisor
+    answered.supervisor
 }
 
 // Answers the lines that a newline ends, in order, as many as fit the buffer.

@@ -1,15 +1,21 @@
-use mathlib.Core.Path.{refl, ap, _∙_}
+-- By the buffer's length: refusal 9, or the line's step with its answer written.
+use mathlib.Core.Path.{refl, sym, ap, _∙_}
+use borrow.Author.Needs.{needs}
 use Rattle.falcon_core.specs.declared.calls.Answered.{Answered}
 use Rattle.falcon_core.specs.Calls.{numbersOf}
 use Rattle.columns.specs.Line.{writtenOver}
-use Rattle.sheet.proofs.Buffer.{short-state, short-refusal, short-buffer, full-step, full-written}
-use borrow.Author.Needs.{needs}
+use Rattle.sheet.proofs.Buffer.{short-step, short-buffer, full-step, full-written}
 use Rattle.sheet.proofs.entry.answer.Statement.{statement}
 use Rattle.sheet.proofs.entry.answer.Tie as tie
 
+refused-requires : tie.Need-refused-requires
+refused-requires c κs = search needs
+
 returns : tie.Need-returns
 returns c =
-    (short-state (c .before .before .before .args .s) (c .before .before .before .args .line .now) (c .before .before .before .args .out .now) (c .if1 .taken), (short-refusal (c .before .before .before .args .s) (c .before .before .before .args .line .now) (c .before .before .before .args .out .now) (c .if1 .taken), (short-buffer (c .before .before .before .args .s) (c .before .before .before .args .line .now) (c .before .before .before .args .out .now) (c .if1 .taken), refl)))
+    let a = c .before .before .before .before .args in
+    let h = c .before .if1 .taken in
+    (c .refused .ensures ∙ sym (short-step (a .s) (a .line .now) (a .out .now) h), (short-buffer (a .s) (a .line .now) (a .out .now) h, refl))
 
 step-requires : tie.Need-step-requires
 step-requires c κs = search needs
@@ -22,19 +28,17 @@ same-length c = search needs
 
 returns-2 : tie.Need-returns-2
 returns-2 c =
-    let e = c .before .before .before .before .before .before .step .ensures ∙ full-step (c .before .before .before .before .before .before .before .before .before .before .args .s) (c .before .before .before .before .before .before .before .before .before .before .args .line .now) (c .before .before .before .before .before .before .before .before .before .before .args .out .now) (c .before .before .before .before .before .before .before .if1 .left) in (
-      ap (λ (x : Answered). x .supervisor) e,
+    let a = c .before .before .before .before .before .before .before .before .before .args in
+    let h = c .before .before .before .before .before .before .if1 .left in
+    let stepped = c .before .before .before .before .before .step .ensures in (
+      stepped ∙ full-step (a .s) (a .line .now) (a .out .now) h,
       (
-        ap (λ (x : Answered). x .answer .refusal) e,
-        (
-          c .before .before .write-answer .ensures
-              ∙ ap (λ (x : Answered). writtenOver (numbersOf (x .answer)) (c .before .before .before .before .before .before .before .before .before .before .args .out .now)) (c .before .before .before .before .before .before .step .ensures)
-              ∙ full-written (c .before .before .before .before .before .before .before .before .before .before .args .s) (c .before .before .before .before .before .before .before .before .before .before .args .line .now) (c .before .before .before .before .before .before .before .before .before .before .args .out .now) (c .before .before .before .before .before .before .before .if1 .left),
-          refl,
-        ),
+        c .before .before .write-answer .ensures
+            ∙ ap (λ (x : Answered). writtenOver (numbersOf (x .answer)) (a .out .now)) stepped
+            ∙ full-written (a .s) (a .line .now) (a .out .now) h,
+        refl,
       ),
     )
 
 pub answer-spec : {M : Type 1} → statement M
-answer-spec =
-    tie.close (tie.spec returns step-requires write-answer-requires same-length returns-2)
+answer-spec = tie.close (tie.spec refused-requires returns step-requires write-answer-requires same-length returns-2)

@@ -58,8 +58,8 @@ returns c =
     let reply = replyLine (a .s) line in
     let wide : length reply ≡ answerWidth = length-reply (a .s) line in
     let last : call .last .1 .1 .0 ≡ reply ++ drop (length reply) part =
-    call .ensures .1 .1 .0 ∙ sym (full-buffer (a .s) line part room) ∙ ap (λ (n : ℕ). reply ++ drop n part) (sym wide) in (
-      call .ensures .0 ∙ sym (ap (λ (x : Answered). x .supervisor) (full-step (a .s) line part room)),
+    call .ensures .1 .0 ∙ sym (full-buffer (a .s) line part room) ∙ ap (λ (n : ℕ). reply ++ drop n part) (sym wide) in (
+      ap (λ (x : Answered). x .supervisor) (call .ensures .0 ∙ sym (full-step (a .s) line part room)),
       placed-line d (a .at) (a .at + answerWidth) (call .last .1 .1 .0) reply newline (omega arith) (omega (arith, c .before .before .before .before .before .before .before .before .pre .1 .1)) last,
     )
 
