@@ -20,7 +20,7 @@ pub bit-half : (m k : ℕ) → bitOf m (suc k) ≡ bitOf (m / 2) k
 unfolding bitOf
 bit-half m k = simp (shr-shr m 1 k, one-add)
 
-bit-zero : (k : ℕ) → bitOf 0 k ≡ false
+pub bit-zero : (k : ℕ) → bitOf 0 k ≡ false
 unfolding bitOf
 bit-zero k = simp zero-div
 

@@ -17,7 +17,7 @@ use Rattle.relay_preflight.specs.declared.CheckId.{CheckId}
 use Rattle.relay_preflight.specs.declared.CheckTable.{CheckTable}
 use Rattle.relay_preflight.specs.declared.TableVerdict.{TableVerdict}
 use Rattle.relay_preflight.specs.declared.TableVerdict.the-variants.{Allowed, Blocked}
-use Rattle.relay_preflight.proofs.Bits.{bit-low, bit-half, bit-and, bit-not, bit-with, with-lt}
+use Rattle.relay_preflight.proofs.Bits.{bit-low, bit-half, bit-zero, bit-and, bit-not, bit-with, with-lt}
 use Rattle.relay_preflight.proofs.Checks.{Each, countOf, number-lt, number-in, number-injective, each-check, each-of}
 
 -- ---- setting a check
@@ -166,6 +166,10 @@ no-blocker (Blocked id) = (λ e. absurd (omega (arith, number-lt id)), λ e. let
 pub fails-bit : (t : CheckTable) → t .passed < 2 ^ 32 → (id : CheckId) → failsOf t id ≡ bitOf (failingMaskOf t) (checkNumber id)
 unfolding failsOf failingMaskOf
 fails-bit t h id = simp (bit-and, bit-not 32 (t .passed) (checkNumber id) h (number-in 32 (lit≤ tt) id))
+
+-- where no bit of the failing mask is set arming is allowed
+pub mask-allows : (t : CheckTable) → t .passed < 2 ^ 32 → failingMaskOf t ≡ 0 → firstBlockerOf t ≡ Allowed
+mask-allows t h e = allowed-iff t .1 (λ id. fails-bit t h id ∙ ap (λ (m : ℕ). bitOf m (checkNumber id)) e ∙ bit-zero (checkNumber id))
 
 abbrev sumBelow : (ℕ → ℕ) → ℕ → ℕ
 sumBelow g zero = 0

@@ -197,8 +197,8 @@ impl TableVerdict {
     }
 }
 
-// Arming is blocked by the first required check that has not passed.
-pub fn arm_check_table(t: CheckTable) -> TableVerdict
+// The checks in their order, up to the first required one that has not passed.
+fn first_failing(t: CheckTable) -> TableVerdict
     ensures { λ r. ⌜ r ≡ firstBlockerOf t ⌝ }
 {
     let mut i = 0;
@@ -210,4 +210,14 @@ pub fn arm_check_table(t: CheckTable) -> TableVerdict
         i += 1;
     }
     TableVerdict::Allowed
+}
+
+// Arming is blocked by the first required check that has not passed. Where none is outstanding there is no check to look for.
+pub fn arm_check_table(t: CheckTable) -> TableVerdict
+    ensures { λ r. ⌜ r ≡ firstBlockerOf t ⌝ }
+{
+    if t.failing_mask() == 0 {
+        return TableVerdict::Allowed;
+    }
+    first_failing(t)
 }
