@@ -23,7 +23,7 @@ use Rattle.falcon_guidance.specs.Mission.{pointAtOf, triedOf, loadedOf}
 use Rattle.falcon_guidance.specs.Zones.{noPlace, zoneAtOf, keptOf as keptZonesOf, loadedZonesOf}
 use Rattle.falcon_failsafe.specs.Failsafe.{clearedOf, breachedOf, runawayOf, windOf}
 use Rattle.falcon_flight.specs.Milestone.{milestoneOf}
-use Rattle.falcon_guidance.specs.Hold.{holdsOf, holdRestMs, holdRestS, holdBrakeMaxS, horizSpeedOf, brakePointOf, enteredOf, restOf, brakedOf, leftOf, keptOf, heldOf}
+use Rattle.falcon_hold.specs.Hold.{holdsOf, holdRestMs, holdRestS, holdBrakeMaxS, horizSpeedOf, brakePointOf, enteredOf, restOf, brakedOf, leftOf, keptOf, heldOf}
 use Rattle.falcon_flight.specs.Tick.{checkedOf, poweredOf, telemetryOf, sensedOf, afterBreach, afterRunaway, afterWind, afterMilestone, holdingOf, tickOf}
 use Rattle.falcon_core.specs.Calls.{Request, opens, ticks, reports, commands, points, zones, commandedBy, afterOf, stepOf}
 use Rattle.falcon_core.specs.Sound.{runOf, FitPoint, FitZone, FitHold, FitFlight, FitOpening, FitTick, Lent, EachLent}

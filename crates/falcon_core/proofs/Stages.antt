@@ -15,7 +15,7 @@ use Rattle.falcon_failsafe.specs.Preflight.{updatePreflightOf, escTelemetryOf}
 use Rattle.falcon_failsafe.specs.Failsafe.{withoutPosition, modeAfter, clearedOf, breachGives, breachedOf, runawayCounted, runawayGives, runawayOf}
 use Rattle.falcon_failsafe.specs.Failsafe.{windCounted, windGives, windOf, motorLost, reportedOf}
 use Rattle.falcon_flight.specs.Milestone.{milestoneGives, legOf, milestoneOf}
-use Rattle.falcon_guidance.specs.Hold.{heldOf}
+use Rattle.falcon_hold.specs.Hold.{heldOf}
 use Rattle.falcon_flight.specs.Setpoint.{motorsOffOf}
 use Rattle.falcon_flight.specs.Tick.{checkedOf, poweredOf, telemetryOf, sensedOf, afterBreach, afterRunaway, afterWind, afterMilestone, holdingOf, answeredOf, tickOf}
 use Rattle.falcon_core.specs.Calls.{allowedOf, commandedBy}

@@ -9,7 +9,7 @@ use Rattle.falcon_guidance.specs.declared.state.Hold.{Hold}
 use Rattle.falcon_guidance.specs.declared.state.Mission.{Mission}
 use Rattle.falcon_guidance.specs.declared.state.Tick.{Tick}
 use Rattle.falcon_guidance.specs.Geometry.{distanceOf}
-use Rattle.falcon_guidance.specs.Hold.{heldOf}
+use Rattle.falcon_hold.specs.Hold.{heldOf}
 use Rattle.falcon_failsafe.specs.declared.state.FailsafeState.{FailsafeState}
 use Rattle.falcon_failsafe.specs.declared.state.FlightSupervisor.{FlightSupervisor}
 use Rattle.falcon_failsafe.specs.State.{failsafeStateOf, withFailsafes, withMode, withMission, withHold, withMotors, withBattery, withTable}

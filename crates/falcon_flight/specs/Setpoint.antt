@@ -16,7 +16,7 @@ use Rattle.falcon_guidance.specs.State.{pointOf}
 use Rattle.falcon_guidance.specs.Geometry.{distanceOf}
 use Rattle.falcon_guidance.specs.Mission.{currentWaypointOf}
 use Rattle.falcon_guidance.specs.Zones.{avoidOf}
-use Rattle.falcon_guidance.specs.Hold.{horizSpeedOf}
+use Rattle.falcon_hold.specs.Hold.{horizSpeedOf}
 
 -- the limits 0.4 and 0.5 of the landing flag
 abbrev pub landingSpeed : Float

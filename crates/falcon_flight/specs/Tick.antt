@@ -20,7 +20,7 @@ use Rattle.falcon_failsafe.specs.State.{withBattery, withTable, withHold, withM
 use Rattle.falcon_failsafe.specs.Preflight.{updatePreflightOf, escTelemetryOf}
 use Rattle.falcon_failsafe.specs.Failsafe.{clearedOf, breachedOf, breachGives, runawayOf, runawayGives, windOf, windGives}
 use Rattle.falcon_flight.specs.Milestone.{milestoneOf, milestoneGives}
-use Rattle.falcon_guidance.specs.Hold.{heldOf, horizSpeedOf}
+use Rattle.falcon_hold.specs.Hold.{heldOf, horizSpeedOf}
 use Rattle.falcon_flight.specs.Setpoint.{landingIn, landingOf, setpointAt, commandedIn, commandedOf, motorsOffOf}
 
 -- the checks paragraph: from the battery BEFORE this tick's reading

@@ -1,8 +1,7 @@
 // The landing flag and the setpoint of each mode.
 ghost use mathlib.Core.Path.{_≡_};
-ghost use Rattle.falcon_guidance.specs.Hold.{horizSpeedOf};
+ghost use Rattle.falcon_hold.specs.Hold.{horizSpeedOf};
 ghost use Rattle.falcon_flight.specs.Setpoint.{landingIn, cruiseOver, setpointAt, commandedIn, motorsOffOf};
-use falcon_guidance::hold::horiz_speed;
 use falcon_guidance::mission::current_waypoint;
 use falcon_guidance::state::Config;
 use falcon_guidance::state::Horizontal;
@@ -11,6 +10,7 @@ use falcon_guidance::state::Point;
 use falcon_guidance::state::Tick;
 use falcon_guidance::state::Zones;
 use falcon_guidance::zones::avoid;
+use falcon_hold::hold::horiz_speed;
 use relay_fsm::Mode;
 
 // In Land with a failed motor, or slow and over home: the descent is on.

@@ -13,13 +13,13 @@ use falcon_failsafe::preflight::update_preflight;
 use falcon_failsafe::state::FailsafeState;
 use falcon_failsafe::state::FlightSupervisor;
 use falcon_guidance::geometry::distance;
-use falcon_guidance::hold::held;
 use falcon_guidance::state::Config;
 use falcon_guidance::state::Horizontal;
 use falcon_guidance::state::Mission;
 use falcon_guidance::state::Point;
 use falcon_guidance::state::Tick;
 use falcon_guidance::state::Zones;
+use falcon_hold::hold::held;
 use relay_fsm::FlightFsm;
 use relay_fsm::Mode;
 

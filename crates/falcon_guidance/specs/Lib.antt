@@ -2,4 +2,3 @@ pub mod State
 pub mod Geometry
 pub mod Mission
 pub mod Zones
-pub mod Hold

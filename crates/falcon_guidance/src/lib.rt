@@ -1,6 +1,5 @@
-// Where to fly: waypoints, keep-out zones and the hold point.
+// Where to fly: waypoints and keep-out zones.
 pub mod geometry;
-pub mod hold;
 pub mod mission;
 pub mod state;
 pub mod zones;

@@ -1,1 +1,2 @@
 mod Table
+mod ListExamples

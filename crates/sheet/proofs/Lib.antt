@@ -3,4 +3,3 @@ pub mod Buffer
 pub mod CallSeen
 pub mod PlaceHolds
 pub mod DemandThree
-mod ListExamples

@@ -1,7 +1,7 @@
-use Rattle.falcon_guidance.specs.Hold.{keptOf}
+use Rattle.falcon_hold.specs.Hold.{keptOf}
 use borrow.Author.Needs.{needs}
-use Rattle.falcon_guidance.proofs.hold.kept.Statement.{statement}
-use Rattle.falcon_guidance.proofs.hold.kept.Tie as tie
+use Rattle.falcon_hold.proofs.hold.kept.Statement.{statement}
+use Rattle.falcon_hold.proofs.hold.kept.Tie as tie
 
 entered-requires : tie.Need-entered-requires
 entered-requires c κs = search needs

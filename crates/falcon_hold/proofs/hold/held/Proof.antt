@@ -1,7 +1,7 @@
-use Rattle.falcon_guidance.specs.Hold.{heldOf}
+use Rattle.falcon_hold.specs.Hold.{heldOf}
 use borrow.Author.Needs.{needs}
-use Rattle.falcon_guidance.proofs.hold.held.Statement.{statement}
-use Rattle.falcon_guidance.proofs.hold.held.Tie as tie
+use Rattle.falcon_hold.proofs.hold.held.Statement.{statement}
+use Rattle.falcon_hold.proofs.hold.held.Tie as tie
 
 holds-requires : tie.Need-holds-requires
 holds-requires c κs = search needs

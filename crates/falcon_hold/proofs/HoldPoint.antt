@@ -6,9 +6,9 @@ use Rattle.relay_fsm.specs.declared.Mode.{Mode}
 use Rattle.relay_fsm.specs.declared.Mode.the-variants.{Takeoff, Loiter}
 use Rattle.relay_fsm.specs.Mode.{isMode}
 use Rattle.relay_fsm.proofs.Finite.{_⇒_, then, atM}
 use Rattle.falcon_guidance.specs.declared.state.Tick.{Tick}
 use Rattle.falcon_guidance.specs.declared.state.Hold.{Hold}
-use Rattle.falcon_guidance.specs.Hold.{holdsOf, enteredOf, keptOf, heldOf}
+use Rattle.falcon_hold.specs.Hold.{holdsOf, enteredOf, keptOf, heldOf}
 
 is-true : (a : Bool) → T a → a ≡ true
 is-true true h = refl

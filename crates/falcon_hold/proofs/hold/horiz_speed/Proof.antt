@@ -1,7 +1,7 @@
-use Rattle.falcon_guidance.specs.Hold.{horizSpeedOf}
+use Rattle.falcon_hold.specs.Hold.{horizSpeedOf}
 use borrow.Author.Needs.{needs}
-use Rattle.falcon_guidance.proofs.hold.horiz_speed.Statement.{statement}
-use Rattle.falcon_guidance.proofs.hold.horiz_speed.Tie as tie
+use Rattle.falcon_hold.proofs.hold.horiz_speed.Statement.{statement}
+use Rattle.falcon_hold.proofs.hold.horiz_speed.Tie as tie
 
 length-requires : tie.Need-length-requires
 length-requires c κs = search needs

@@ -1,10 +1,10 @@
 // The hold point: latched on entry to Takeoff or Loiter, after braking where Loiter is entered while moving.
 ghost use mathlib.Core.Path.{_≡_};
-ghost use Rattle.falcon_guidance.specs.Hold.{horizSpeedOf, holdsOf, hereOf, brakePointOf, enteredOf, restOf, brakedOf, leftOf, keptOf, heldOf};
-use crate::geometry::length;
-use crate::state::Hold;
-use crate::state::Horizontal;
-use crate::state::Tick;
+ghost use Rattle.falcon_hold.specs.Hold.{horizSpeedOf, holdsOf, hereOf, brakePointOf, enteredOf, restOf, brakedOf, leftOf, keptOf, heldOf};
+use falcon_guidance::geometry::length;
+use falcon_guidance::state::Hold;
+use falcon_guidance::state::Horizontal;
+use falcon_guidance::state::Tick;
 use relay_fsm::Mode;
 
 // The horizontal speed.

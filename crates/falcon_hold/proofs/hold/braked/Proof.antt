@@ -1,7 +1,7 @@
-use Rattle.falcon_guidance.specs.Hold.{brakedOf}
+use Rattle.falcon_hold.specs.Hold.{brakedOf}
 use borrow.Author.Needs.{needs}
-use Rattle.falcon_guidance.proofs.hold.braked.Statement.{statement}
-use Rattle.falcon_guidance.proofs.hold.braked.Tie as tie
+use Rattle.falcon_hold.proofs.hold.braked.Statement.{statement}
+use Rattle.falcon_hold.proofs.hold.braked.Tie as tie
 
 rest-requires : tie.Need-rest-requires
 rest-requires c κs = search needs

@@ -1,7 +1,7 @@
-use Rattle.falcon_guidance.specs.Hold.{restOf}
+use Rattle.falcon_hold.specs.Hold.{restOf}
 use borrow.Author.Needs.{needs}
-use Rattle.falcon_guidance.proofs.hold.rest.Statement.{statement}
-use Rattle.falcon_guidance.proofs.hold.rest.Tie as tie
+use Rattle.falcon_hold.proofs.hold.rest.Statement.{statement}
+use Rattle.falcon_hold.proofs.hold.rest.Tie as tie
 
 horiz-speed-requires : tie.Need-horiz-speed-requires
 horiz-speed-requires c κs = search needs

@@ -1,7 +1,7 @@
-use Rattle.falcon_guidance.specs.Hold.{enteredOf}
+use Rattle.falcon_hold.specs.Hold.{enteredOf}
 use borrow.Author.Needs.{needs}
-use Rattle.falcon_guidance.proofs.hold.entered.Statement.{statement}
-use Rattle.falcon_guidance.proofs.hold.entered.Tie as tie
+use Rattle.falcon_hold.proofs.hold.entered.Statement.{statement}
+use Rattle.falcon_hold.proofs.hold.entered.Tie as tie
 
 returns : tie.Need-returns
 unfolding enteredOf

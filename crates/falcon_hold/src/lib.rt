@@ -1,0 +1,2 @@
+// The hold point of Takeoff and Loiter.
+pub mod hold;
