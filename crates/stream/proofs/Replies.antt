@@ -14,10 +14,10 @@ use Rattle.columns.specs.Field.{fieldWidth, put}
 use Rattle.columns.specs.Line.{Reading, answerWidth, lineFields}
 use Rattle.stream.specs.Lines.{newline, whole, joined, lastLine, linesOf, together, answers, stream}
 use Rattle.requests.specs.Kinds.{answeredBy}
-use Rattle.sheet.specs.Entry.{replyOf}
+use Rattle.lists.specs.Entry.{replyOf}
 use Rattle.requests.specs.Line.{askedBy, askedLine}
 use Rattle.stream.specs.Many.{afterLine, replyLine, replyWidth, fitting, replies, progressOf, answersOver}
-use Rattle.sheet.proofs.Answer.{numbers-count}
+use Rattle.lists.proofs.Answer.{numbers-count}
 use Rattle.columns.proofs.LineAgain.{within-cut}
 use Rattle.stream.proofs.LinesAgain.{used-most}
 use Rattle.stream.proofs.LinesCut.{length-answers, stream-all}

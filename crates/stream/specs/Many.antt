@@ -7,7 +7,7 @@ use Rattle.stream.specs.declared.many.Progress.{Progress}
 use Rattle.columns.specs.Line.{answerWidth}
 use Rattle.stream.specs.Lines.{joined, answers, statesAfter}
 use Rattle.requests.specs.Kinds.{answeredBy}
-use Rattle.sheet.specs.Entry.{replyOf}
+use Rattle.lists.specs.Entry.{replyOf}
 use Rattle.requests.specs.Line.{askedLine}
 
 -- the state after a line

@@ -7,9 +7,9 @@ use borrow.Author.Needs.{needs}
 use Rattle.falcon_core.specs.declared.calls.Answered.{Answered}
 use Rattle.columns.specs.Line.{answerWidth}
 use Rattle.stream.specs.Lines.{newline}
-use Rattle.sheet.specs.Entry.{replyOf}
+use Rattle.lists.specs.Entry.{replyOf}
 use Rattle.stream.specs.Many.{afterLine, replyLine}
-use Rattle.sheet.proofs.Buffer.{full-step, full-buffer}
+use Rattle.lists.proofs.Buffer.{full-step, full-buffer}
 use Rattle.stream.proofs.Replies.{length-reply}
 use Rattle.stream.proofs.LinesTurns.{to-end, placed-line}
 use Rattle.stream.proofs.many.answer_at.Statement.{statement}

@@ -9,8 +9,8 @@ use Rattle.falcon_core.specs.Calls.{refusedOf, numbersOf}
 use Rattle.columns.specs.Line.{answerWidth, lineOf, writtenOver}
 use Rattle.requests.specs.Kinds.{answeredBy}
 use Rattle.requests.specs.Line.{askedLine}
-use Rattle.sheet.proofs.Answer.{numbers-count}
-use Rattle.sheet.specs.Entry.{shortBuffer, askedWith, lineStep, replyOf, bufferAfter}
+use Rattle.lists.proofs.Answer.{numbers-count}
+use Rattle.lists.specs.Entry.{shortBuffer, askedWith, lineStep, replyOf, bufferAfter}
 
 -- under 110 bytes of buffer
 module _ (s : Supervisor) (line out : List ℕ) (h : length out < answerWidth) where

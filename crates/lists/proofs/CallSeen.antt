@@ -9,7 +9,7 @@ use Rattle.falcon_core.specs.declared.calls.Answered.{Answered}
 use Rattle.falcon_core.specs.Calls.{Request, refusalOf, afterOf, outputOf, answerOf, refusedOf, acceptedOf, stepOf}
 use Rattle.falcon_core.proofs.Answers.{step-refused, step-accepted}
 use Rattle.requests.specs.Kinds.{Asked, refuses, asks, answeredBy}
-use Rattle.sheet.specs.Lists.{Call, askedOf, callStep, accepted, requested, taken}
+use Rattle.lists.specs.Lists.{Call, askedOf, callStep, accepted, requested, taken}
 
 -- the answer to a call, and what it took
 pub data Seen (s : Supervisor) : Answered → Option Request → Type 0 where

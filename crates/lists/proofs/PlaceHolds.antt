@@ -35,9 +35,9 @@ use Rattle.falcon_flight.specs.Tick.{tickOf}
 use Rattle.falcon_core.specs.Calls.{Request, opens, ticks, reports, commands, points, zones, dueAfter, afterOf, outputOf, answerOf, refusedOf, acceptedOf}
 use Rattle.falcon_core.proofs.Stages.{tick-battery, report-battery, report-counts, command-battery, command-counts}
 use Rattle.falcon_core.proofs.Runaway.{tick-count, tick-ends, report-ends, command-terminated}
-use Rattle.sheet.specs.Lists.{Call, Began, Place, nextMode, ticked, nextBattery, nextBegan, nextPlace, placeFrom, start}
-use Rattle.sheet.specs.Demand3.{tumblingTicks, tumbling}
-use Rattle.sheet.proofs.CallSeen.{Seen, refused, took, seen}
+use Rattle.lists.specs.Lists.{Call, Began, Place, nextMode, ticked, nextBattery, nextBegan, nextPlace, placeFrom, start}
+use Rattle.lists.specs.Demand3.{tumblingTicks, tumbling}
+use Rattle.lists.proofs.CallSeen.{Seen, refused, took, seen}
 
 -- how many of the latest ticks in a row began airborne and tilted
 unfoldable pub run : List Began → ℕ

@@ -13,7 +13,7 @@ use Rattle.falcon_guidance.specs.declared.state.Tick.{Tick}
 use Rattle.falcon_flight.specs.Milestone.{heightOf}
 use Rattle.falcon_core.specs.Land.{landedOf, throughLandOf}
 use Rattle.falcon_core.specs.Calls.{ticks}
-use Rattle.sheet.specs.Lists.{Call, Place, Began, taken, placeFrom, placeAt, nextPlace, latchOf, calm, calmFrom, ticksFrom}
+use Rattle.lists.specs.Lists.{Call, Place, Began, taken, placeFrom, placeAt, nextPlace, latchOf, calm, calmFrom, ticksFrom}
 
 -- "from the second accepted tick after it on"
 abbrev pub landingTicks : ℕ

@@ -27,10 +27,10 @@ use Rattle.falcon_core.specs.Calls.{Request, opens, ticks, reports, commands, p
 use Rattle.falcon_core.proofs.Rank.{tick-rank, report-rank}
 use Rattle.falcon_core.proofs.Phase.{phaseOf, airborne-phase, tick-phase, report-keeps-phase}
 use Rattle.falcon_core.proofs.Runaway.{tick-ends}
-use Rattle.sheet.specs.Lists.{Call, Began, Place, taken, nextMode, ticked, nextBattery, nextBegan, nextPlace, placeFrom, placeAt, start, latchOf, calm, calmFrom, tickCount, ticksFrom}
-use Rattle.sheet.specs.Demand3.{landingTicks, tumblingTicks, underGround, tumbling, tumblingFor, TwoTicks, RankKept, FiftyTicks, Demand3}
-use Rattle.sheet.proofs.CallSeen.{Seen, refused, took, seen}
-use Rattle.sheet.proofs.PlaceHolds.{run, Inv, Holding, refused-mode, accepted-mode, one-more, run-now, enough-is, tick-terminates, no-air, next-holding, place-holding, start-holding}
+use Rattle.lists.specs.Lists.{Call, Began, Place, taken, nextMode, ticked, nextBattery, nextBegan, nextPlace, placeFrom, placeAt, start, latchOf, calm, calmFrom, tickCount, ticksFrom}
+use Rattle.lists.specs.Demand3.{landingTicks, tumblingTicks, underGround, tumbling, tumblingFor, TwoTicks, RankKept, FiftyTicks, Demand3}
+use Rattle.lists.proofs.CallSeen.{Seen, refused, took, seen}
+use Rattle.lists.proofs.PlaceHolds.{run, Inv, Holding, refused-mode, accepted-mode, one-more, run-now, enough-is, tick-terminates, no-air, next-holding, place-holding, start-holding}
 
 -- ---- the rank rule
 
