@@ -7,12 +7,12 @@ use mathlib.Core.List.{List, [], _∷_, _++_}
 use lib.ListN.{length, take, drop, length-take, length-drop, length-append}
 use lib.Seq.{take-all}
 use Rattle.falcon_core.specs.declared.state.Supervisor.{Supervisor}
-use Rattle.stream.specs.declared.many.Progress.{Progress}
-use Rattle.stream.specs.Lines.{whole, joined, statesAfter}
-use Rattle.stream.specs.Many.{replyWidth, afterLine, fitting, replies, progressOf}
-use Rattle.stream.proofs.LinesAgain.{joined-append, whole-most, whole-off, used-most}
-use Rattle.stream.proofs.LinesCut.{states-append}
-use Rattle.stream.proofs.Replies.{written-most}
+use Rattle.sheet.specs.declared.many.Progress.{Progress}
+use Rattle.sheet.specs.Lines.{whole, joined, statesAfter}
+use Rattle.sheet.specs.Many.{replyWidth, afterLine, fitting, replies, progressOf}
+use Rattle.sheet.proofs.LinesAgain.{joined-append, whole-most, whole-off, used-most}
+use Rattle.sheet.proofs.LinesCut.{states-append}
+use Rattle.sheet.proofs.Replies.{written-most}
 
 take-more : (ls : List (List ℕ)) (k n : ℕ) → take (k + n) ls ≡ take k ls ++ take n (drop k ls)
 take-more ls zero n = ap (λ (m : ℕ). take m ls) (zero-add n)

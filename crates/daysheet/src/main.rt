@@ -3,14 +3,14 @@
 ghost use Prim.Native.Nat.{_+_, _≤_};
 ghost use mathlib.Core.Path.{_≡_};
 ghost use lib.ListN.{length};
-ghost use Rattle.stream.specs.Lines.{keptWidth, whole, joined, statesAfter};
-ghost use Rattle.stream.specs.Many.{replyWidth, afterLine};
+ghost use Rattle.sheet.specs.Lines.{keptWidth, whole, joined, statesAfter};
+ghost use Rattle.sheet.specs.Many.{replyWidth, afterLine};
 use falcon_core::state::Supervisor;
 use libc::STDIN_FILENO;
 use libc::STDOUT_FILENO;
-use stream::lines::keep;
-use stream::many::answer_last;
-use stream::many::answer_lines;
+use sheet::lines::keep;
+use sheet::many::answer_last;
+use sheet::many::answer_lines;
 
 // The state after the lines of a read, the bytes that they took, and whether all answers so far were written.
 struct Drained {

@@ -36,13 +36,13 @@ use Rattle.falcon_failsafe.specs.State.{openedOf as stateOpenedOf}
 use Rattle.falcon_core.specs.State.{unopened}
 use Rattle.falcon_flight.specs.Tick.{checkedOf, poweredOf, telemetryOf, sensedOf, afterBreach, afterRunaway, afterWind, afterMilestone, holdingOf, answeredOf, tickOf, givenOf}
 use Rattle.falcon_guidance.specs.Zones.{goalOf, bearingOf, alongOf, perpOf, obstructsOf, threatensOf, tangentOf, urgencyOf, ringOf, deflectedOf, aroundOf, aroundAllOf, avoidOf, zoneAtOf, keptOf as zonesKeptOf, storedZonesOf, loadedZonesOf}
-use Rattle.lists.specs.Entry.{askedWith, lineStep, replyOf, bufferAfter}
+use Rattle.call_lists.specs.Entry.{askedWith, lineStep, replyOf, bufferAfter}
 use Rattle.requests.specs.Line.{askedLine}
 use Rattle.columns.specs.Field.{inRange, digits, start as fieldStart, spaced, readField, column, columns, fieldOf, put}
 use Rattle.requests.specs.Kinds.{openingFrom, openingLine, readingFrom, batteryOk, tickFrom, tickOk, tickLine, reportLine, commandLine, pointsLine, zonesLine, requestOf}
 use Rattle.columns.specs.Line.{onto, before, fields, lengthOk, readWithin, lineOf, readingOf}
-use Rattle.lists.specs.Lists.{callStep, taken, nextPlace, placeFrom, start, calmFrom, ticksFrom}
-use Rattle.lists.specs.Lists.{Call, byValues, byLine, Place, latchOf}
+use Rattle.call_lists.specs.Lists.{callStep, taken, nextPlace, placeFrom, start, calmFrom, ticksFrom}
+use Rattle.call_lists.specs.Lists.{Call, byValues, byLine, Place, latchOf}
 
 -- home 0, fence 100, cruise 10, opening volts 14
 opening : Call

@@ -10,7 +10,7 @@ use falcon_core::state::Supervisor;
 use libc::STDIN_FILENO;
 use libc::STDOUT_FILENO;
 use sheet::entry::answer;
-use stream::many::answer_sheet;
+use sheet::many::answer_sheet;
 
 // The columns of a sheet's name.
 const NAME: usize = 52;

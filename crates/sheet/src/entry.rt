@@ -2,7 +2,7 @@
 ghost use mathlib.Core.Path.{_≡_};
 ghost use Rattle.falcon_core.specs.Calls.{numbersOf};
 ghost use Rattle.columns.specs.Line.{writtenOver};
-ghost use Rattle.lists.specs.Entry.{lineStep, bufferAfter};
+ghost use Rattle.call_lists.specs.Entry.{lineStep, bufferAfter};
 use columns::field::write_numbers;
 use columns::line::ANSWER;
 use falcon_core::calls::Answer;

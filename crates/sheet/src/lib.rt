@@ -1,3 +1,5 @@
-// A call by line, and lists of calls.
+// A sheet: a line and its answer, many lines however they are cut, and what holds of every list of calls.
 pub mod entry;
+pub mod lines;
 pub mod lists;
+pub mod many;

@@ -4,9 +4,9 @@ use mathlib.Core.Path.{_≡_, refl, ap, _∙_}
 use mathlib.Core.List.{List}
 use lib.ListN.{length}
 use borrow.Author.Needs.{needs}
-use Rattle.stream.specs.Lines.{whole}
-use Rattle.stream.specs.Many.{fitting, progressOf}
-use Rattle.stream.proofs.LinesTurns.{to-end}
+use Rattle.sheet.specs.Lines.{whole}
+use Rattle.sheet.specs.Many.{fitting, progressOf}
+use Rattle.sheet.proofs.LinesTurns.{to-end}
 use Rattle.daysheet.proofs.Draining.{Drains, written-fits, lines-most, used-fits, lines-fit, drains-first, drains-next, drains-last}
 use Rattle.daysheet.proofs.drain.Statement.{statement}
 use Rattle.daysheet.proofs.drain.Tie as tie

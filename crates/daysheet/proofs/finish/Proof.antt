@@ -3,8 +3,8 @@ use mathlib.Core.Path.{sym}
 use lib.ListN.{take}
 use lib.Seq.{length-take-le}
 use borrow.Author.Needs.{needs}
-use Rattle.stream.specs.Lines.{lastLine}
-use Rattle.stream.proofs.Replies.{written-most}
+use Rattle.sheet.specs.Lines.{lastLine}
+use Rattle.sheet.proofs.Replies.{written-most}
 use Rattle.daysheet.proofs.finish.Statement.{statement}
 use Rattle.daysheet.proofs.finish.Tie as tie
 

@@ -2,7 +2,7 @@ use native.Mathlib.Omega.{arith}
 use mathlib.Core.Path.{sym}
 use lib.Seq.{length-take-le}
 use borrow.Author.Needs.{needs}
-use Rattle.stream.proofs.LinesTurns.{kept-length}
+use Rattle.sheet.proofs.LinesTurns.{kept-length}
 use Rattle.daysheet.proofs.turn.Statement.{statement}
 use Rattle.daysheet.proofs.turn.Tie as tie
 

@@ -3,8 +3,8 @@ use mathlib.Core.Path.{sym}
 use lib.Seq.{length-take-le}
 use borrow.Author.Needs.{needs}
 use Rattle.falcon_core.specs.State.{unopened}
-use Rattle.stream.specs.Lines.{linesOf}
-use Rattle.stream.proofs.Replies.{written-most}
+use Rattle.sheet.specs.Lines.{linesOf}
+use Rattle.sheet.proofs.Replies.{written-most}
 use Rattle.rows.proofs.write_answers.Statement.{statement}
 use Rattle.rows.proofs.write_answers.Tie as tie
 

@@ -4,7 +4,7 @@ use borrow.Author.Needs.{needs}
 use Rattle.falcon_core.specs.declared.calls.Answered.{Answered}
 use Rattle.falcon_core.specs.Calls.{numbersOf}
 use Rattle.columns.specs.Line.{writtenOver}
-use Rattle.lists.proofs.Buffer.{short-step, short-buffer, full-step, full-written}
+use Rattle.call_lists.proofs.Buffer.{short-step, short-buffer, full-step, full-written}
 use Rattle.sheet.proofs.entry.answer.Statement.{statement}
 use Rattle.sheet.proofs.entry.answer.Tie as tie
 

@@ -1,5 +1,5 @@
 -- Demand 3 is `demand3`.
-use Rattle.lists.proofs.DemandThree.{demand3}
+use Rattle.call_lists.proofs.DemandThree.{demand3}
 use Rattle.sheet.proofs.lists.demand_three.Statement.{statement}
 use Rattle.sheet.proofs.lists.demand_three.Tie as tie
 

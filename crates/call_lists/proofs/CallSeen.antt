@@ -1,0 +1,38 @@
+-- A call is refused and keeps the state, or it is accepted for what it asks. Assumes nothing.
+use Prim.Native.Nat.{ℕ, zero, suc}
+use mathlib.Core.Bool.{Bool, true, false, cond}
+use mathlib.Core.Option.{Option, none, some}
+use mathlib.Core.Path.{_≡_, refl}
+use lib.Dec.{eqb·suc-zero}
+use Rattle.falcon_core.specs.declared.state.Supervisor.{Supervisor}
+use Rattle.falcon_core.specs.declared.calls.Answered.{Answered}
+use Rattle.falcon_core.specs.Calls.{Request, refusalOf, afterOf, outputOf, answerOf, refusedOf, acceptedOf, stepOf}
+use Rattle.falcon_core.proofs.Answers.{step-refused, step-accepted}
+use Rattle.requests.specs.Kinds.{Asked, refuses, asks, answeredBy}
+use Rattle.call_lists.specs.Lists.{Call, askedOf, callStep, accepted, requested, taken}
+
+-- the answer to a call, and what it took
+pub data Seen (s : Supervisor) : Answered → Option Request → Type 0 where
+  refused : (n : ℕ) → Seen s (refusedOf s n) none
+  took : (r : Request) → refusalOf s r ≡ 0 → Seen s (acceptedOf (afterOf s r) (outputOf s r)) (some r)
+
+-- the same of what is asked
+takenBy : Answered → Asked → Option Request
+takenBy a k = cond (accepted a) (requested k) none
+
+refused-takes : (s : Supervisor) (n : ℕ) (b : Bool) → cond {A = Option Request} b none none ≡ none
+refused-takes s n true = refl
+refused-takes s n false = refl
+
+seen-by : (s : Supervisor) (r : Request) (n : ℕ) → refusalOf s r ≡ n → Seen s (stepOf s r) (cond (accepted (stepOf s r)) (some r) none)
+unfolding refusedOf acceptedOf answerOf
+seen-by s r zero e = rw (step-accepted s r e) (took r e)
+seen-by s r (suc n) e = rw (step-refused s r n e, eqb·suc-zero n) (refused (suc n))
+
+seen-asked : (s : Supervisor) (k : Asked) → Seen s (answeredBy s k) (cond (accepted (answeredBy s k)) (requested k) none)
+seen-asked s (refuses n) = rw (refused-takes s n (accepted (refusedOf s n))) (refused n)
+seen-asked s (asks r) = seen-by s r (refusalOf s r) refl
+
+pub seen : (s : Supervisor) (c : Call) → Seen s (callStep s c) (taken s c)
+unfolding callStep taken
+seen s c = seen-asked s (askedOf c)

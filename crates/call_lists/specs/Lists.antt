@@ -1,0 +1,144 @@
+-- Lists of calls: what document 01's section of that name speaks of. A place is what the calls before it have made.
+use Prim.Native.Nat.{ℕ, _+_}
+use mathlib.Core.Bool.{Bool, true, false, cond, _&&_}
+use mathlib.Core.List.{List, [], _∷_}
+use mathlib.Core.Option.{Option, none, some}
+use lib.Dec.{eqb}
+use Rattle.relay_fsm.specs.declared.Mode.{Mode}
+use Rattle.relay_fsm.specs.declared.Mode.the-variants.{Disarmed}
+use Rattle.relay_batt.specs.declared.battery.Battery.{Battery}
+use Rattle.relay_batt.specs.Battery.{openedOf, updateOf}
+use Rattle.relay_batt.specs.Config.{forOpeningVoltsOf}
+use Rattle.falcon_guidance.specs.declared.state.Tick.{Tick}
+use Rattle.falcon_core.specs.declared.state.Supervisor.{Supervisor}
+use Rattle.falcon_core.specs.declared.calls.Answered.{Answered}
+use Rattle.falcon_core.specs.State.{unopened}
+use Rattle.falcon_core.specs.Calls.{Request, opens, ticks, reports, commands, points, zones}
+use Rattle.requests.specs.Kinds.{Asked, refuses, asks, answeredBy}
+use Rattle.call_lists.specs.Entry.{askedWith}
+
+-- "by line or by lent values": a line with its answer buffer in full, or what is asked by values
+pub data Call : Type 0 where
+  byValues : Request → Call
+  byLine : List ℕ → List ℕ → Call
+
+-- what a call asks, or the refusal that fits it whatever the state
+abbrev pub askedOf : Call → Asked
+askedOf (byValues r) = asks r
+askedOf (byLine line out) = askedWith line out
+
+-- the state after a call and its answer: the definition by which `answer` and the six calls are stated
+unfoldable pub callStep : Supervisor → Call → Answered
+callStep s c = answeredBy s (askedOf c)
+
+-- "Accepted means that the refusal answered is 0."
+abbrev pub accepted : Answered → Bool
+accepted a = eqb (a .answer .refusal) 0
+
+-- what is asked, where nothing is refused whatever the state
+abbrev pub requested : Asked → Option Request
+requested (refuses n) = none
+requested (asks r) = some r
+
+-- what a call asks, if it is accepted
+unfoldable pub taken : Supervisor → Call → Option Request
+taken s c = cond (accepted (callStep s c)) (requested (askedOf c)) none
+
+-- an accepted tick and the mode that it began in
+pub record Began : Type 0 where
+  pub mode : Mode
+  pub tick : Tick
+
+-- a place: the state there, the mode there, the battery there, and the accepted ticks since the latest accepted opening, the latest first
+pub record Place : Type 0 where
+  pub supervisor : Supervisor
+  pub mode : Mode
+  pub battery : Option Battery
+  pub began : List Began
+
+-- "The mode there is the one that the latest accepted call answered, 0 before any."
+abbrev pub nextMode : Mode → Answered → Mode
+nextMode m a = cond (accepted a) (a .answer .mode) m
+
+-- the battery run over one accepted tick's dt and reading
+abbrev pub ticked : Option Battery → Tick → Option Battery
+ticked none t = none
+ticked (some b) t = some (updateOf b (t .dt) (t .reading))
+
+-- "starting from what the latest accepted opening sets and run over dt and reading of each accepted tick since"
+abbrev pub nextBattery : Option Battery → Option Request → Option Battery
+nextBattery b none = b
+nextBattery b (some (opens o)) = some (openedOf (forOpeningVoltsOf (o .«low_batt_v»)))
+nextBattery b (some (ticks t)) = ticked b t
+nextBattery b (some (reports failed)) = b
+nextBattery b (some (commands ev level low)) = b
+nextBattery b (some (points l)) = b
+nextBattery b (some (zones l)) = b
+
+-- "A tick begins in the mode before it"; "all since the latest accepted opening"
+abbrev pub nextBegan : Mode → List Began → Option Request → List Began
+nextBegan m l none = l
+nextBegan m l (some (opens o)) = []
+nextBegan m l (some (ticks t)) = record { mode = m; tick = t } ∷ l
+nextBegan m l (some (reports failed)) = l
+nextBegan m l (some (commands ev level low)) = l
+nextBegan m l (some (points p)) = l
+nextBegan m l (some (zones z)) = l
+
+-- "each further one the state that the call before it returned, after a refusal too"
+unfoldable pub nextPlace : Place → Call → Place
+nextPlace p c =
+    record {
+      supervisor = callStep (p .supervisor) c .supervisor;
+      mode = nextMode (p .mode) (callStep (p .supervisor) c);
+      battery = nextBattery (p .battery) (taken (p .supervisor) c);
+      began = nextBegan (p .mode) (p .began) (taken (p .supervisor) c);
+    }
+
+-- the place after a list of calls, first call first
+unfoldable pub placeFrom : Place → List Call → Place
+placeFrom p [] = p
+placeFrom p (c ∷ l) = placeFrom (nextPlace p c) l
+
+-- "The first call gets the state with no opening": the place before the first call
+unfoldable pub start : Place
+start = record { supervisor = unopened; mode = Disarmed; battery = none; began = [] }
+
+-- the place after these calls
+abbrev pub placeAt : List Call → Place
+placeAt l = placeFrom start l
+
+-- "The critical battery latch at a place"; "before an opening it is not set"
+abbrev pub latchOf : Option Battery → Bool
+latchOf none = false
+latchOf (some b) = b .est .critical .latched
+
+-- no accepted opening and no accepted command
+abbrev pub calm : Option Request → Bool
+calm none = true
+calm (some (opens o)) = false
+calm (some (ticks t)) = true
+calm (some (reports failed)) = true
+calm (some (commands ev level low)) = false
+calm (some (points l)) = true
+calm (some (zones l)) = true
+
+-- "no command or opening is accepted" among the calls after a place
+unfoldable pub calmFrom : Place → List Call → Bool
+calmFrom p [] = true
+calmFrom p (c ∷ l) = calm (taken (p .supervisor) c) && calmFrom (nextPlace p c) l
+
+-- 1 for an accepted tick
+abbrev pub tickCount : Option Request → ℕ
+tickCount none = 0
+tickCount (some (opens o)) = 0
+tickCount (some (ticks t)) = 1
+tickCount (some (reports failed)) = 0
+tickCount (some (commands ev level low)) = 0
+tickCount (some (points l)) = 0
+tickCount (some (zones l)) = 0
+
+-- the accepted ticks among the calls after a place
+unfoldable pub ticksFrom : Place → List Call → ℕ
+ticksFrom p [] = 0
+ticksFrom p (c ∷ l) = tickCount (taken (p .supervisor) c) + ticksFrom (nextPlace p c) l

@@ -1,0 +1,147 @@
+-- An input that is read in parts, cut anywhere, has the answers of the whole. Assumes nothing.
+use Prim.Native.Nat.{ℕ, zero, suc, _+_, _*_, _<_}
+use native.Mathlib.Nat.{mul-suc}
+use native.Mathlib.Omega.{arith}
+use native.Mathlib.Decide.{decLe}
+use mathlib.Core.Path.{_≡_, refl, sym, ap, _∙_}
+use mathlib.Core.List.{List, [], _∷_, _++_, map, append-nil, append-assoc}
+use lib.ListN.{length, take, length-append}
+use lib.Seq.{take-all, take-nil}
+use Rattle.sheet.specs.Lines.{newline, whole, joined, rest, lastLine, linesOf, together, answers, statesAfter, stream}
+use Rattle.sheet.proofs.LinesAgain.{AllBare, bare-append, bare-take, whole-bare, joined-rest, rest-bare, rest-all, lines-joined, lines-split}
+
+-- ---- lines cut to their first n bytes
+
+cut-take : (n : ℕ) (s t : List ℕ) → take n (take n s ++ t) ≡ take n (s ++ t)
+cut-take zero s t = refl
+cut-take (suc n) [] t = refl
+cut-take (suc n) (b ∷ s) t = ap (λ (l : List ℕ). b ∷ l) (cut-take n s t)
+
+cut-last : (n : ℕ) (r : List ℕ) → 0 < n → map (take n) (lastLine r) ≡ lastLine (take n r)
+unfolding lastLine
+cut-last zero r h = absurd (omega arith)
+cut-last (suc n) [] h = refl
+cut-last (suc n) (b ∷ r) h = refl
+
+-- an input without a newline is one line, or none
+lines-none : (s : List ℕ) → whole s ≡ [] → linesOf s ≡ lastLine s
+unfolding linesOf
+lines-none s h = ap (λ (ls : List (List ℕ)). ls ++ lastLine (rest s)) h ∙ ap lastLine (rest-all s h)
+
+-- bytes without a newline in front of an input that has one
+lines-front : (q l : List ℕ) (t : List ℕ) → whole q ≡ [] → whole l ≡ [] → linesOf (q ++ (l ++ (newline ∷ t))) ≡ (q ++ l) ∷ linesOf t
+unfolding joined
+lines-front q l t h k =
+    ap linesOf (sym (append-assoc q l (newline ∷ t)) ∙ sym (append-assoc (q ++ l) (newline ∷ []) t))
+    ∙ lines-joined ((q ++ l) ∷ []) t (bare-append q l h k, tt)
+
+-- a line begun, cut to its first n bytes: every line's first n bytes stay
+module _ (n : ℕ) (some : 0 < n) (q : List ℕ) (bare : whole q ≡ []) where
+  cut-none : (t : List ℕ) → whole t ≡ [] → map (take n) (linesOf (take n q ++ t)) ≡ map (take n) (linesOf (q ++ t))
+  cut-none t h =
+      ap (map (take n)) (lines-none (take n q ++ t) (bare-append (take n q) t (bare-take n q bare) h))
+      ∙ cut-last n (take n q ++ t) some
+      ∙ ap lastLine (cut-take n q t)
+      ∙ sym (cut-last n (q ++ t) some)
+      ∙ ap (map (take n)) (sym (lines-none (q ++ t) (bare-append q t bare h)))
+
+  cut-front : (l t : List ℕ) → whole l ≡ [] → map (take n) (linesOf (take n q ++ (l ++ (newline ∷ t)))) ≡ map (take n) (linesOf (q ++ (l ++ (newline ∷ t))))
+  cut-front l t h =
+      ap (map (take n)) (lines-front (take n q) l t (bare-take n q bare) h)
+      ∙ ap (λ (k : List ℕ). k ∷ map (take n) (linesOf t)) (cut-take n q l)
+      ∙ ap (map (take n)) (sym (lines-front q l t bare h))
+
+  cut-either : (t : List ℕ) (ls : List (List ℕ)) → AllBare ls → whole t ≡ ls → map (take n) (linesOf (take n q ++ t)) ≡ map (take n) (linesOf (q ++ t))
+  unfolding joined
+  cut-either t [] h e = cut-none t e
+  cut-either t (l ∷ ls) h e =
+      let parts : l ++ (newline ∷ (joined ls ++ rest t)) ≡ t =
+      sym (append-assoc l (newline ∷ joined ls) (rest t)) ∙ ap (λ (ms : List (List ℕ)). joined ms ++ rest t) (sym e) ∙ joined-rest t in
+      rw parts at (cut-front l (joined ls ++ rest t) (h .0))
+
+  pub cut-begun : (t : List ℕ) → map (take n) (linesOf (take n q ++ t)) ≡ map (take n) (linesOf (q ++ t))
+  cut-begun t = cut-either t (whole t) (whole-bare t) refl
+
+-- ---- a step for one line
+
+module _ {S : Type 0} (after : S → List ℕ → S) where
+  pub states-append : (s : S) (ls ms : List (List ℕ)) → statesAfter after s (ls ++ ms) ≡ statesAfter after (statesAfter after s ls) ms
+  unfolding statesAfter
+  states-append s [] ms = refl
+  states-append s (l ∷ ls) ms = states-append (after s l) ls ms
+
+module _ {S : Type 0} (after : S → List ℕ → S) (reply : S → List ℕ → List ℕ) where
+  pub answers-append : (s : S) (ls ms : List (List ℕ)) → answers after reply s (ls ++ ms) ≡ answers after reply s ls ++ answers after reply (statesAfter after s ls) ms
+  unfolding answers statesAfter
+  answers-append s [] ms = refl
+  answers-append s (l ∷ ls) ms =
+      ap (λ (r : List ℕ). reply s l ++ (newline ∷ r)) (answers-append (after s l) ls ms)
+      ∙ sym (append-assoc (reply s l) (newline ∷ answers after reply (after s l) ls) (answers after reply (statesAfter after (after s l) ls) ms))
+
+  -- answers that are all equally wide
+  pub length-answers : (width : ℕ) → ((s : S) (l : List ℕ) → length (reply s l) ≡ width) → (s : S) (ls : List (List ℕ))
+      → length (answers after reply s ls) ≡ (width + 1) * length ls
+  unfolding answers
+  length-answers width each s [] = omega arith
+  length-answers width each s (l ∷ ls) =
+      length-append (reply s l) (newline ∷ answers after reply (after s l) ls)
+      ∙ ap (λ (n : ℕ). n + suc (length (answers after reply (after s l) ls))) (each s l)
+      ∙ ap (λ (n : ℕ). width + suc n) (length-answers width each (after s l) ls)
+      ∙ last ((width + 1) * length ls)
+      ∙ sym (mul-suc (width + 1) (length ls))
+    where
+      last : (n : ℕ) → width + suc n ≡ n + (width + 1)
+      last n = omega arith
+
+  -- a line over the limit is answered by its first bytes, one more than the limit
+  module _ (limit : ℕ)
+      (cut-after : (s : S) (l : List ℕ) → limit < length l → after s l ≡ after s (take (limit + 1) l))
+      (cut-reply : (s : S) (l : List ℕ) → limit < length l → reply s l ≡ reply s (take (limit + 1) l)) where
+    after-cut : (s : S) (l : List ℕ) → after s l ≡ after s (take (limit + 1) l)
+    after-cut s l =
+        elim (decLe (length l) limit) [
+          | yes h ↦ ap (after s) (sym (take-all (limit + 1) l (omega arith)))
+          | no q ↦ cut-after s l (omega arith)
+        ]
+
+    reply-cut : (s : S) (l : List ℕ) → reply s l ≡ reply s (take (limit + 1) l)
+    reply-cut s l =
+        elim (decLe (length l) limit) [
+          | yes h ↦ ap (reply s) (sym (take-all (limit + 1) l (omega arith)))
+          | no q ↦ cut-reply s l (omega arith)
+        ]
+
+    answers-cut : (s : S) (ls : List (List ℕ)) → answers after reply s ls ≡ answers after reply s (map (take (limit + 1)) ls)
+    unfolding answers
+    answers-cut s [] = refl
+    answers-cut s (l ∷ ls) =
+        ap (λ (r : List ℕ). r ++ (newline ∷ answers after reply (after s l) ls)) (reply-cut s l)
+        ∙ ap (λ (t : S). reply s (take (limit + 1) l) ++ (newline ∷ answers after reply t ls)) (after-cut s l)
+        ∙ ap (λ (r : List ℕ). reply s (take (limit + 1) l) ++ (newline ∷ r)) (answers-cut (after s (take (limit + 1) l)) ls)
+
+    -- the answers of an input whose begun line was cut
+    answers-begun : (s : S) (q t : List ℕ) → whole q ≡ [] → answers after reply s (linesOf (take (limit + 1) q ++ t)) ≡ answers after reply s (linesOf (q ++ t))
+    answers-begun s q t bare =
+        answers-cut s (linesOf (take (limit + 1) q ++ t))
+        ∙ ap (answers after reply s) (cut-begun (limit + 1) (omega arith) q bare t)
+        ∙ sym (answers-cut s (linesOf (q ++ t)))
+
+    -- from a line begun: the parts to come give the answers of all that is left
+    pub stream-whole : (s : S) (q : List ℕ) (cs : List (List ℕ)) → whole q ≡ []
+        → stream after reply limit s (take (limit + 1) q) cs ≡ answers after reply s (linesOf (q ++ together cs))
+    unfolding stream together
+    stream-whole s q [] bare =
+        ap (answers after reply s) (sym (lines-none (take (limit + 1) q) (bare-take (limit + 1) q bare)) ∙ ap linesOf (sym (append-nil (take (limit + 1) q))))
+        ∙ answers-begun s q [] bare
+    stream-whole s q (c ∷ cs) bare =
+        let p : List ℕ = take (limit + 1) q in
+        ap (λ (r : List ℕ). answers after reply s (whole (p ++ c)) ++ r)
+        (stream-whole (statesAfter after s (whole (p ++ c))) (rest (p ++ c)) cs (rest-bare (p ++ c)))
+        ∙ sym (answers-append s (whole (p ++ c)) (linesOf (rest (p ++ c) ++ together cs)))
+        ∙ ap (answers after reply s) (sym (lines-split (p ++ c) (together cs)) ∙ ap linesOf (append-assoc p c (together cs)))
+        ∙ answers-begun s q (c ++ together cs) bare
+
+    -- "a last line without newline too": an input in parts has the answers of its lines
+    pub stream-all : (s : S) (cs : List (List ℕ)) → stream after reply limit s [] cs ≡ answers after reply s (linesOf (together cs))
+    unfolding whole
+    stream-all s cs = ap (λ (p : List ℕ). stream after reply limit s p cs) (sym (take-nil (limit + 1))) ∙ stream-whole s [] cs refl
