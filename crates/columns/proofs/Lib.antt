@@ -1,5 +1,5 @@
 mod FieldTurns
-mod LineTurns
+pub mod LineTurns
 mod Words
 pub mod FieldAgain
 pub mod LineAgain

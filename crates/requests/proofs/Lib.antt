@@ -1,2 +1,1 @@
-mod Floats
-pub mod Asking
+mod Asking

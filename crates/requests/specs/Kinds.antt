@@ -1,9 +1,10 @@
 -- The kinds of lines: what the numbers of a line ask, or the refusal 3, 4 or 5 that fits them whatever the state.
-use Prim.Native.Nat.{ℕ, _+_, _*_}
+use Prim.Native.Nat.{ℕ, _+_, _*_, _≤_}
+use mathlib.Core.Path.{_≡_}
 use mathlib.Core.Bool.{Bool, cond, _&&_, _||_}
 use mathlib.Core.List.{List, map}
 use lib.Dec.{eqb, leb, ltb}
-use lib.ListN.{length, getD, drop}
+use lib.ListN.{length, getD, take, drop}
 use lib.Ieee.{Float, binary32, ofBits}
 use Rattle.relay_fsm.specs.declared.FoundEvent.{FoundEvent}
 use Rattle.relay_fsm.specs.declared.FoundEvent.the-variants.{Known, Unknown}
@@ -15,6 +16,8 @@ use Rattle.falcon_failsafe.specs.declared.state.Opening.{Opening}
 use Rattle.falcon_guidance.specs.declared.state.Tick.{Tick}
 use Rattle.falcon_core.specs.declared.state.Supervisor.{Supervisor}
 use Rattle.falcon_core.specs.declared.calls.Answered.{Answered}
+use Rattle.requests.specs.declared.kinds.Kind.{Kind}
+use Rattle.requests.specs.declared.kinds.Kind.the-variants.{Refused, Opens, Ticks, Reports, Commands, Points, Zones}
 use Rattle.falcon_guidance.specs.State.{pointOf}
 use Rattle.falcon_core.specs.Calls.{Request, opens, ticks, reports, commands, points, zones, wrongCount, outOfRange, refusedOf, stepOf}
 
@@ -148,3 +151,34 @@ requestOf ns =
     (cond (eqb (numberAt ns 0) 3) (reportLine ns)
     (cond (eqb (numberAt ns 0) 4) (commandLine ns)
     (cond (eqb (numberAt ns 0) 5) (pointsLine ns) (cond (eqb (numberAt ns 0) 6) (zonesLine ns) (refuses unknownKind))))))
+
+-- "n, then 3 each" or "4 each": the numbers of a line of points or zones, which are the first of these, and its floats
+abbrev pub listLine : ℕ → List ℕ → List ℕ
+listLine width ns = take (2 + width * numberAt ns 1) ns
+
+abbrev pub listFloats : List ℕ → List Float
+listFloats ns = map (ofBits binary32) (drop 2 ns)
+
+-- what each case of `Kind` asks, the line's numbers being the first of these
+abbrev pub kindAsks : List ℕ → Kind → Asked
+kindAsks ns (Refused n) = refuses n
+kindAsks ns (Opens o) = asks (opens o)
+kindAsks ns (Ticks t) = asks (ticks t)
+kindAsks ns (Reports failed) = asks (reports failed)
+kindAsks ns (Commands ev level low) = asks (commands ev level low)
+kindAsks ns Points = asks (points (listFloats (listLine 3 ns)))
+kindAsks ns Zones = asks (zones (listFloats (listLine 4 ns)))
+
+-- the points or zones of a line are among these numbers
+abbrev pub Listed : Kind → List ℕ → Type 0
+Listed (Refused n) ns = Unit
+Listed (Opens o) ns = Unit
+Listed (Ticks t) ns = Unit
+Listed (Reports failed) ns = Unit
+Listed (Commands ev level low) ns = Unit
+Listed Points ns = 2 + 3 * numberAt ns 1 ≤ length ns
+Listed Zones ns = 2 + 4 * numberAt ns 1 ≤ length ns
+
+-- a case of `Kind`, with the line's numbers, is what is asked
+abbrev pub Says : Kind → List ℕ → Asked → Type 0
+Says kind ns asked = (kindAsks ns kind ≡ asked) × Listed kind ns

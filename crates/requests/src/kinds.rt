@@ -1,15 +1,10 @@
-// The kinds of lines: from the numbers of a line to the call that it asks for.
+// The kinds of lines: from the numbers of a line to what it asks.
 ghost use mathlib.Core.Path.{_≡_};
-ghost use mathlib.Core.List.{map, _++_};
-ghost use Prim.Native.Nat.{_+_, _<_, _≤_};
-ghost use lib.ListN.{length, drop, take};
-ghost use lib.Ieee.{binary32, ofBits};
-ghost use Rattle.requests.specs.Kinds.{answeredBy, floatAt, isFlag, flagAt, pointFrom, openingFrom, openingLine, readingFrom, batteryOk};
-ghost use Rattle.requests.specs.Kinds.{tickFrom, tickOk, tickLine, reportLine, commandLine, pointsLine, zonesLine, requestOf};
+ghost use Prim.Native.Nat.{_+_, _<_};
+ghost use lib.ListN.{length};
+ghost use Rattle.requests.specs.Kinds.{floatAt, isFlag, flagAt, pointFrom, openingFrom, openingLine, readingFrom, batteryOk, tickFrom, tickOk, tickLine};
+ghost use Rattle.requests.specs.Kinds.{reportLine, commandLine, pointsLine, zonesLine, requestOf, Says};
 use falcon_core::calls::Answer;
-use falcon_core::calls::Answered;
-use falcon_core::calls::refused;
-use falcon_core::state::Supervisor;
 use falcon_failsafe::state::Opening;
 use falcon_guidance::state::Point;
 use falcon_guidance::state::Tick;
@@ -17,6 +12,21 @@ use relay_batt::Reading;
 use relay_fsm::Event;
 use relay_fsm::FoundEvent;
 use relay_math::from_bits;
+
+// What a line asks, by its kind, or the refusal that fits it whatever the state. The points or zones of a line stand in its numbers.
+pub enum Kind {
+    Refused(u32),
+    Opens(Opening),
+    Ticks(Tick),
+    Reports(bool),
+    Commands {
+        ev: Event,
+        level: bool,
+        throttle_low: bool,
+    },
+    Points,
+    Zones,
+}
 
 // 3: the kind is not 1..6.
 pub const UNKNOWN_KIND: u32 = 3;
@@ -75,16 +85,16 @@ fn opening_from(ns: &[u32]) -> Opening
 }
 
 // A line of kind 1.
-fn opening_line(s: Supervisor, ns: &[u32]) -> Answered
-    ensures { λ r. ⌜ r ≡ answeredBy s (openingLine (now (ns .entry))) ⌝ }
+fn opening_line(ns: &[u32]) -> Kind
+    ensures { λ r. ⌜ Says r (now (ns .entry)) (openingLine (now (ns .entry))) ⌝ }
 {
     if ns.len() != 10 {
-        return refused(s, Answer::WRONG_COUNT);
+        return Kind::Refused(Answer::WRONG_COUNT);
     }
     if is_flag(ns, 9) {
-        return s.opening(opening_from(ns));
+        return Kind::Opens(opening_from(ns));
     }
-    refused(s, Answer::OUT_OF_RANGE)
+    Kind::Refused(Answer::OUT_OF_RANGE)
 }
 
 // The battery reading of a line of kind 2.
@@ -147,120 +157,104 @@ fn tick_ok(ns: &[u32]) -> bool
 }
 
 // A line of kind 2.
-fn tick_line(s: Supervisor, ns: &[u32]) -> Answered
-    ensures { λ r. ⌜ r ≡ answeredBy s (tickLine (now (ns .entry))) ⌝ }
+fn tick_line(ns: &[u32]) -> Kind
+    ensures { λ r. ⌜ Says r (now (ns .entry)) (tickLine (now (ns .entry))) ⌝ }
 {
     if ns.len() != 18 {
-        return refused(s, Answer::WRONG_COUNT);
+        return Kind::Refused(Answer::WRONG_COUNT);
     }
     if tick_ok(ns) {
-        return s.tick(tick_from(ns));
+        return Kind::Ticks(tick_from(ns));
     }
-    refused(s, Answer::OUT_OF_RANGE)
+    Kind::Refused(Answer::OUT_OF_RANGE)
 }
 
 // A line of kind 3.
-fn report_line(s: Supervisor, ns: &[u32]) -> Answered
-    ensures { λ r. ⌜ r ≡ answeredBy s (reportLine (now (ns .entry))) ⌝ }
+fn report_line(ns: &[u32]) -> Kind
+    ensures { λ r. ⌜ Says r (now (ns .entry)) (reportLine (now (ns .entry))) ⌝ }
 {
     if ns.len() != 2 {
-        return refused(s, Answer::WRONG_COUNT);
+        return Kind::Refused(Answer::WRONG_COUNT);
     }
     if is_flag(ns, 1) {
-        return s.report(flag_at(ns, 1));
+        return Kind::Reports(flag_at(ns, 1));
     }
-    refused(s, Answer::OUT_OF_RANGE)
+    Kind::Refused(Answer::OUT_OF_RANGE)
 }
 
 // A line of kind 4.
-fn command_line(s: Supervisor, ns: &[u32]) -> Answered
-    ensures { λ r. ⌜ r ≡ answeredBy s (commandLine (now (ns .entry))) ⌝ }
+fn command_line(ns: &[u32]) -> Kind
+    ensures { λ r. ⌜ Says r (now (ns .entry)) (commandLine (now (ns .entry))) ⌝ }
 {
     if ns.len() != 4 {
-        return refused(s, Answer::WRONG_COUNT);
+        return Kind::Refused(Answer::WRONG_COUNT);
     }
     if is_flag(ns, 2) & is_flag(ns, 3) {
         let FoundEvent::Known(ev) = Event::from_number(ns[1]) else {
-            return refused(s, Answer::OUT_OF_RANGE);
+            return Kind::Refused(Answer::OUT_OF_RANGE);
         };
-        return s.command(ev, flag_at(ns, 2), flag_at(ns, 3));
+        return Kind::Commands {
+            ev,
+            level: flag_at(ns, 2),
+            throttle_low: flag_at(ns, 3),
+        };
     }
-    refused(s, Answer::OUT_OF_RANGE)
-}
-
-// The numbers as floats, from the start of `floats` on.
-fn read_floats(numbers: &[u32], floats: &mut [f32])
-    requires { ⌜ length (now numbers) ≤ length (now floats) ⌝ }
-    ensures { λ _. ⌜ now (floats .exit) ≡ map (ofBits binary32) (now (numbers .entry)) ++ drop (length (now (numbers .entry))) (now (floats .entry)) ⌝ }
-{
-    let mut i = 0;
-    while i < numbers.len() {
-        floats[i] = from_bits(numbers[i]);
-        i += 1;
-    }
+    Kind::Refused(Answer::OUT_OF_RANGE)
 }
 
 // A line of kind 5.
-fn points_line(s: Supervisor, ns: &[u32]) -> Answered
-    requires { ⌜ length (now ns) ≤ 130 ⌝ }
-    ensures { λ r. ⌜ r ≡ answeredBy s (pointsLine (now (ns .entry))) ⌝ }
+fn points_line(ns: &[u32]) -> Kind
+    ensures { λ r. ⌜ Says r (now (ns .entry)) (pointsLine (now (ns .entry))) ⌝ }
 {
     let n = ns.len();
     if n < 2 {
-        return refused(s, Answer::WRONG_COUNT);
+        return Kind::Refused(Answer::WRONG_COUNT);
     }
     let count = ns[1] as usize;
     if n != 2 + 3 * count {
-        return refused(s, Answer::WRONG_COUNT);
+        return Kind::Refused(Answer::WRONG_COUNT);
     }
-    let mut floats = [0.0f32; 128];
-    read_floats(&ns[2..], &mut floats);
-    let lent = n - 2;
-    s.set_mission_waypoints(&floats[..lent])
+    Kind::Points
 }
 
 // A line of kind 6.
-fn zones_line(s: Supervisor, ns: &[u32]) -> Answered
-    requires { ⌜ length (now ns) ≤ 130 ⌝ }
-    ensures { λ r. ⌜ r ≡ answeredBy s (zonesLine (now (ns .entry))) ⌝ }
+fn zones_line(ns: &[u32]) -> Kind
+    ensures { λ r. ⌜ Says r (now (ns .entry)) (zonesLine (now (ns .entry))) ⌝ }
 {
     let n = ns.len();
     if n < 2 {
-        return refused(s, Answer::WRONG_COUNT);
+        return Kind::Refused(Answer::WRONG_COUNT);
     }
     let count = ns[1] as usize;
     if n != 2 + 4 * count {
-        return refused(s, Answer::WRONG_COUNT);
+        return Kind::Refused(Answer::WRONG_COUNT);
     }
-    let mut floats = [0.0f32; 128];
-    read_floats(&ns[2..], &mut floats);
-    let lent = n - 2;
-    s.set_keepout_zones(&floats[..lent])
+    Kind::Zones
 }
 
-// The numbers of a line, answered by its kind.
-pub(crate) fn numbers_step(s: Supervisor, ns: &[u32]) -> Answered
-    requires { ⌜ (0 < length (now ns)) × (length (now ns) ≤ 130) ⌝ }
-    ensures { λ r. ⌜ r ≡ answeredBy s (requestOf (now (ns .entry))) ⌝ }
+// What the numbers of a line ask, by its kind.
+pub(crate) fn kind_of(ns: &[u32]) -> Kind
+    requires { ⌜ 0 < length (now ns) ⌝ }
+    ensures { λ r. ⌜ Says r (now (ns .entry)) (requestOf (now (ns .entry))) ⌝ }
 {
     let kind = ns[0];
     if kind == 1 {
-        return opening_line(s, ns);
+        return opening_line(ns);
     }
     if kind == 2 {
-        return tick_line(s, ns);
+        return tick_line(ns);
     }
     if kind == 3 {
-        return report_line(s, ns);
+        return report_line(ns);
     }
     if kind == 4 {
-        return command_line(s, ns);
+        return command_line(ns);
     }
     if kind == 5 {
-        return points_line(s, ns);
+        return points_line(ns);
     }
     if kind == 6 {
-        return zones_line(s, ns);
+        return zones_line(ns);
     }
-    refused(s, UNKNOWN_KIND)
+    Kind::Refused(UNKNOWN_KIND)
 }

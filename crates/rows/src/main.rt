@@ -79,7 +79,7 @@ fn replay_all(head: &mut [u8], sheet: &mut [u8], out: &mut [u8]) {
 fn short_buffer() {
     let mut out = [b'?'; 109];
     let answered = answer(Supervisor::new(), b"12", &mut out);
-    io::print_decimal(STDOUT_FILENO, answered.answer.refusal as u64);
+    io::print_decimal(STDOUT_FILENO, answered.refusal as u64);
     io::write_all(STDOUT_FILENO, b"\n");
     io::write_all(STDOUT_FILENO, &out);
     io::write_all(STDOUT_FILENO, b"\n");

@@ -1,4 +1,5 @@
 mod Examples
+mod Floats
 pub mod LinesAgain
 pub mod LinesCut
 pub mod LinesTurns

@@ -1,18 +1,89 @@
 // A call by line, with the buffer for its answer.
 ghost use mathlib.Core.Path.{_≡_};
-ghost use Rattle.falcon_core.specs.Calls.{numbersOf};
-ghost use Rattle.columns.specs.Line.{writtenOver};
+ghost use mathlib.Core.List.{map, _++_};
+ghost use Prim.Native.Nat.{_+_, _*_, _≤_};
+ghost use lib.ListN.{length, drop};
+ghost use lib.Ieee.{binary32, ofBits};
+ghost use Rattle.falcon_core.specs.Calls.{numbersOf, points, zones, stepOf};
+ghost use Rattle.columns.specs.Line.{writtenOver, lineFields};
+ghost use Rattle.requests.specs.Kinds.{answeredBy, numberAt, listLine, listFloats, kindAsks, Listed};
 ghost use Rattle.call_lists.specs.Entry.{lineStep, bufferAfter};
+ghost use Rattle.sheet.specs.Entry.{lineAnswered};
 use columns::field::write_numbers;
 use columns::line::ANSWER;
+use columns::line::LINE_FIELDS;
 use falcon_core::calls::Answer;
 use falcon_core::calls::Answered;
 use falcon_core::calls::refused;
 use falcon_core::state::Supervisor;
-use requests::line::step;
+use relay_math::from_bits;
+use requests::kinds::Kind;
+use requests::line::asked;
 
 // 9: the answer buffer is too short.
 pub const SHORT_BUFFER: u32 = 9;
+
+// The state after a line, and the refusal that its answer gives.
+pub struct LineAnswered {
+    pub supervisor: Supervisor,
+    pub refusal: u32,
+}
+
+// The numbers as floats, from the start of `floats` on.
+fn read_floats(numbers: &[u32], floats: &mut [f32])
+    requires { ⌜ length (now numbers) ≤ length (now floats) ⌝ }
+    ensures { λ _. ⌜ now (floats .exit) ≡ map (ofBits binary32) (now (numbers .entry)) ++ drop (length (now (numbers .entry))) (now (floats .entry)) ⌝ }
+{
+    let mut i = 0;
+    while i < numbers.len() {
+        floats[i] = from_bits(numbers[i]);
+        i += 1;
+    }
+}
+
+// The points of a line, whose numbers are the first of these.
+fn points_step(s: Supervisor, numbers: &[u32]) -> Answered
+    requires { ⌜ (2 + 3 * numberAt (now numbers) 1 ≤ length (now numbers)) × (length (now numbers) ≤ lineFields) ⌝ }
+    ensures { λ r. ⌜ r ≡ stepOf s (points (listFloats (listLine 3 (now (numbers .entry))))) ⌝ }
+{
+    let lent = 3 * (numbers[1] as usize);
+    let end = 2 + lent;
+    let mut floats = [0.0f32; LINE_FIELDS];
+    read_floats(&numbers[2..end], &mut floats);
+    s.set_mission_waypoints(&floats[..lent])
+}
+
+// The zones of a line, whose numbers are the first of these.
+fn zones_step(s: Supervisor, numbers: &[u32]) -> Answered
+    requires { ⌜ (2 + 4 * numberAt (now numbers) 1 ≤ length (now numbers)) × (length (now numbers) ≤ lineFields) ⌝ }
+    ensures { λ r. ⌜ r ≡ stepOf s (zones (listFloats (listLine 4 (now (numbers .entry))))) ⌝ }
+{
+    let lent = 4 * (numbers[1] as usize);
+    let end = 2 + lent;
+    let mut floats = [0.0f32; LINE_FIELDS];
+    read_floats(&numbers[2..end], &mut floats);
+    s.set_keepout_zones(&floats[..lent])
+}
+
+// What a line is answered with, by its kind; the line's numbers are the first of these.
+fn step(s: Supervisor, kind: Kind, numbers: &[u32]) -> Answered
+    requires { ⌜ Listed kind (now numbers) × (length (now numbers) ≤ lineFields) ⌝ }
+    ensures { λ r. ⌜ r ≡ answeredBy s (kindAsks (now (numbers .entry)) kind) ⌝ }
+{
+    match kind {
+        Kind::Refused(refusal) => refused(s, refusal),
+        Kind::Opens(o) => s.opening(o),
+        Kind::Ticks(t) => s.tick(t),
+        Kind::Reports(failed) => s.report(failed),
+        Kind::Commands {
+            ev,
+            level,
+            throttle_low,
+        } => s.command(ev, level, throttle_low),
+        Kind::Points => points_step(s, numbers),
+        Kind::Zones => zones_step(s, numbers),
+    }
+}
 
 // The answer's fields at the start of the buffer, where it has room for them.
 fn write_answer(out: &mut [u8], a: Answer)
@@ -22,17 +93,41 @@ fn write_answer(out: &mut [u8], a: Answer)
     write_numbers(out, &numbers);
 }
 
+// The same as `answer`, with an array for the line's numbers.
+pub(crate) fn answer_with(
+    s: Supervisor,
+    line: &[u8],
+    numbers: &mut [u32],
+    out: &mut [u8],
+) -> LineAnswered
+    requires { ⌜ length (now numbers) ≡ lineFields ⌝ }
+    ensures { λ r. ⌜ r ≡ lineAnswered (lineStep s (now (line .entry)) (now (out .entry))) ⌝ }
+    ensures { λ _. ⌜ now (out .exit) ≡ bufferAfter s (now (line .entry)) (now (out .entry)) ⌝ }
+    ensures { λ _. ⌜ now (line .exit) ≡ now (line .entry) ⌝ }
+{
+    if out.len() < ANSWER {
+        return LineAnswered {
+            supervisor: s,
+            refusal: SHORT_BUFFER,
+        };
+    }
+    let kind = asked(line, numbers);
+    let answered = step(s, kind, numbers);
+    let a = answered.answer;
+    write_answer(out, a);
+    let supervisor = answered.supervisor;
+    LineAnswered {
+        supervisor,
+        refusal: a.refusal,
+    }
+}
+
 // Answers a line. Under 110 bytes of buffer nothing is written and the refusal is 9.
-pub fn answer(s: Supervisor, line: &[u8], out: &mut [u8]) -> Answered
-    ensures answered { λ r. ⌜ r ≡ lineStep s (now (line .entry)) (now (out .entry)) ⌝ }
+pub fn answer(s: Supervisor, line: &[u8], out: &mut [u8]) -> LineAnswered
+    ensures answered { λ r. ⌜ r ≡ lineAnswered (lineStep s (now (line .entry)) (now (out .entry))) ⌝ }
     ensures buffer { λ _. ⌜ now (out .exit) ≡ bufferAfter s (now (line .entry)) (now (out .entry)) ⌝ }
     ensures unchanged { λ _. ⌜ now (line .exit) ≡ now (line .entry) ⌝ }
 {
-    if out.len() < ANSWER {
-        return refused(s, SHORT_BUFFER);
-    }
-    let answered = step(s, line);
-    let a = answered.answer;
-    write_answer(out, a);
-    answered
+    let mut numbers = [0u32; LINE_FIELDS];
+    answer_with(s, line, &mut numbers, out)
 }

@@ -6,12 +6,14 @@ ghost use mathlib.Core.List.{_++_, _∷_, []};
 ghost use lib.ListN.{length, take, drop};
 ghost use Rattle.falcon_core.specs.State.{unopened};
 ghost use Rattle.columns.specs.Field.{put};
+ghost use Rattle.columns.specs.Line.{lineFields};
 ghost use Rattle.sheet.specs.Lines.{newline, whole, lastLine, linesOf};
 ghost use Rattle.sheet.specs.Many.{afterLine, replyLine, replyWidth, fitting, replies, progressOf, answersOver};
+use crate::entry::answer_with;
 use crate::lines::find_newline;
 use columns::line::ANSWER;
+use columns::line::LINE_FIELDS;
 use falcon_core::state::Supervisor;
-use crate::entry::answer;
 
 // The bytes of an answer and its newline.
 pub const REPLY: usize = ANSWER + 1;
@@ -24,21 +26,23 @@ pub struct Progress {
     pub lines: usize,
 }
 
-// Answers the line from `from` to `end`, and puts the answer at place `at`.
+// Answers the line from `from` to `end`, and puts the answer at place `at`. The array takes the line's numbers.
 fn answer_at(
     s: Supervisor,
     input: &[u8],
     from: usize,
     end: usize,
+    numbers: &mut [u32],
     out: &mut [u8],
     at: usize,
 ) -> Supervisor
-    requires { ⌜ (from ≤ end) × ((end ≤ length (now input)) × (at + replyWidth ≤ length (now out))) ⌝ }
+    requires { ⌜ (from ≤ end) × ((end ≤ length (now input)) × ((length (now numbers) ≡ lineFields) × (at + replyWidth ≤ length (now out)))) ⌝ }
     ensures { λ r. ⌜ r ≡ afterLine s (take (end - from) (drop from (now (input .entry)))) ⌝ }
     ensures { λ _. ⌜ now (out .exit) ≡ put (now (out .entry)) at (replyLine s (take (end - from) (drop from (now (input .entry)))) ++ (newline ∷ [])) ⌝ }
 {
-    let answered = answer(s, &input[from..end], &mut out[at..]);
-    out[at + ANSWER] = b'\n';
+    let last = at + ANSWER;
+    let answered = answer_with(s, &input[from..end], numbers, &mut out[at..]);
+    out[last] = b'\n';
     answered.supervisor
 }
 
@@ -48,6 +52,7 @@ pub fn answer_lines(s: Supervisor, input: &[u8], out: &mut [u8]) -> Progress
     ensures buffer { λ _. ⌜ now (out .exit) ≡ answersOver s (fitting (whole (now (input .entry))) (now (out .entry))) (now (out .entry)) ⌝ }
     ensures unchanged { λ _. ⌜ now (input .exit) ≡ now (input .entry) ⌝ }
 {
+    let mut numbers = [0u32; LINE_FIELDS];
     let mut supervisor = s;
     let mut used = 0;
     let mut written = 0;
@@ -62,8 +67,9 @@ pub fn answer_lines(s: Supervisor, input: &[u8], out: &mut [u8]) -> Progress
                 lines,
             };
         }
-        supervisor = answer_at(supervisor, input, used, end, out, written);
-        used = end + 1;
+        let next = end + 1;
+        supervisor = answer_at(supervisor, input, used, end, &mut numbers, out, written);
+        used = next;
         written += REPLY;
         lines += 1;
         end = find_newline(input, used);
@@ -89,7 +95,8 @@ pub fn answer_last(s: Supervisor, input: &[u8], out: &mut [u8]) -> usize
     if out.len() < REPLY {
         return 0;
     }
-    answer_at(s, input, 0, end, out, 0);
+    let mut numbers = [0u32; LINE_FIELDS];
+    answer_at(s, input, 0, end, &mut numbers, out, 0);
     REPLY
 }
 

@@ -1,17 +1,13 @@
 use mathlib.Core.Path.{sym, _∙_}
-use lib.ListN.{length}
 use Rattle.requests.specs.Kinds.{commandLine}
 use borrow.Author.Tests.{eq-eqb, ne-eqb}
 use borrow.Author.Needs.{needs}
 use Rattle.requests.proofs.kinds.command_line.Statement.{statement}
 use Rattle.requests.proofs.kinds.command_line.Tie as tie
 
-refused-requires : tie.Need-refused-requires
-refused-requires c κs = search needs
-
 returns : tie.Need-returns
 unfolding commandLine
-returns c = simp (c .refused .ensures, ne-eqb (length (c .before .before .before .args .ns .now)) 4 (c .before .if1 .taken))
+returns c = (simp (ne-eqb _ _ (c .if1 .taken)), tt)
 
 is-flag-requires : tie.Need-is-flag-requires
 is-flag-requires c κs = search needs
@@ -31,12 +27,9 @@ enum-known-ev c = search needs
 enum-told : tie.Need-enum-told
 enum-told c = search needs
 
-refused-requires-2 : tie.Need-refused-requires-2
-refused-requires-2 c κs = search needs
-
 returns-2 : tie.Need-returns-2
 unfolding commandLine
-returns-2 c = simp (c .refused2 .ensures, sym (c .before .before .before .from-number .ensures) ∙ c .before .enum-told .given .1, simp (c .before .before .before .before .before .before .is-flag2 .ensures, c .before .before .before .before .before .before .before .is-flag .ensures) at (c .before .before .before .before .before .if2 .taken), c .before .before .before .before .before .before .is-flag2 .ensures, c .before .before .before .before .before .before .before .is-flag .ensures, eq-eqb (length (c .before .before .before .before .before .before .before .before .before .before .args .ns .now)) 4 (c .before .before .before .before .before .before .before .before .if1 .left))
+returns-2 c = (simp (sym (c .before .before .from-number .ensures) ∙ c .enum-told .given .1, simp (c .before .before .before .before .before .is-flag2 .ensures, c .before .before .before .before .before .before .is-flag .ensures) at (c .before .before .before .before .if2 .taken), c .before .before .before .before .before .is-flag2 .ensures, c .before .before .before .before .before .before .is-flag .ensures, eq-eqb _ _ (c .before .before .before .before .before .before .before .if1 .left)), tt)
 
 flag-at-requires : tie.Need-flag-at-requires
 flag-at-requires c κs = search needs
@@ -44,25 +37,18 @@ flag-at-requires c κs = search needs
 flag-at-requires-2 : tie.Need-flag-at-requires-2
 flag-at-requires-2 c κs = search needs
 
-command-requires : tie.Need-command-requires
-command-requires c κs = search needs
-
 returns-3 : tie.Need-returns-3
 unfolding commandLine
-returns-3 c = simp (c .command .ensures, c .before .flag-at2 .ensures, c .before .before .flag-at .ensures, sym (c .before .before .before .before .before .before .from-number .ensures) ∙ c .before .before .before .before .ev .given .1, simp (c .before .before .before .before .before .before .before .before .before .is-flag2 .ensures, c .before .before .before .before .before .before .before .before .before .before .is-flag .ensures) at (c .before .before .before .before .before .before .before .before .if2 .taken), c .before .before .before .before .before .before .before .before .before .is-flag2 .ensures, c .before .before .before .before .before .before .before .before .before .before .is-flag .ensures, eq-eqb (length (c .before .before .before .before .before .before .before .before .before .before .before .before .before .args .ns .now)) 4 (c .before .before .before .before .before .before .before .before .before .before .before .if1 .left))
-
-refused-requires-3 : tie.Need-refused-requires-3
-refused-requires-3 c κs = search needs
+returns-3 c = (simp (c .flag-at2 .ensures, c .before .flag-at .ensures, sym (c .before .before .before .before .before .from-number .ensures) ∙ c .before .before .before .ev .given .1, simp (c .before .before .before .before .before .before .before .before .is-flag2 .ensures, c .before .before .before .before .before .before .before .before .before .is-flag .ensures) at (c .before .before .before .before .before .before .before .if2 .taken), c .before .before .before .before .before .before .before .before .is-flag2 .ensures, c .before .before .before .before .before .before .before .before .before .is-flag .ensures, eq-eqb _ _ (c .before .before .before .before .before .before .before .before .before .before .if1 .left)), tt)
 
 returns-4 : tie.Need-returns-4
 unfolding commandLine
-returns-4 c = simp (c .refused3 .ensures, simp (c .before .before .is-flag2 .ensures, c .before .before .before .is-flag .ensures) at (c .before .if2 .left), c .before .before .is-flag2 .ensures, c .before .before .before .is-flag .ensures, eq-eqb (length (c .before .before .before .before .before .before .args .ns .now)) 4 (c .before .before .before .before .if1 .left))
+returns-4 c = (simp (simp (c .before .is-flag2 .ensures, c .before .before .is-flag .ensures) at (c .if2 .left), c .before .is-flag2 .ensures, c .before .before .is-flag .ensures, eq-eqb _ _ (c .before .before .before .if1 .left)), tt)
 
 pub command-line-spec : {M : Type 1} → statement M
 command-line-spec =
     tie.close
     (tie.spec
-    refused-requires
     returns
     is-flag-requires
     is-flag-requires-2
@@ -70,11 +56,8 @@ command-line-spec =
     from-number-requires
     enum-known-ev
     enum-told
-    refused-requires-2
     returns-2
     flag-at-requires
     flag-at-requires-2
-    command-requires
     returns-3
-    refused-requires-3
     returns-4)

@@ -1,16 +1,12 @@
-use lib.ListN.{length}
 use Rattle.requests.specs.Kinds.{reportLine}
 use borrow.Author.Tests.{eq-eqb, ne-eqb}
 use borrow.Author.Needs.{needs}
 use Rattle.requests.proofs.kinds.report_line.Statement.{statement}
 use Rattle.requests.proofs.kinds.report_line.Tie as tie
 
-refused-requires : tie.Need-refused-requires
-refused-requires c κs = search needs
-
 returns : tie.Need-returns
 unfolding reportLine
-returns c = simp (c .refused .ensures, ne-eqb (length (c .before .before .before .args .ns .now)) 2 (c .before .if1 .taken))
+returns c = (simp (ne-eqb _ _ (c .if1 .taken)), tt)
 
 is-flag-requires : tie.Need-is-flag-requires
 is-flag-requires c κs = search needs
@@ -18,29 +14,13 @@ is-flag-requires c κs = search needs
 flag-at-requires : tie.Need-flag-at-requires
 flag-at-requires c κs = search needs
 
-report-requires : tie.Need-report-requires
-report-requires c κs = search needs
-
 returns-2 : tie.Need-returns-2
 unfolding reportLine
-returns-2 c = simp (c .report .ensures, c .before .flag-at .ensures, simp (c .before .before .before .is-flag .ensures) at (c .before .before .if2 .taken), c .before .before .before .is-flag .ensures, eq-eqb (length (c .before .before .before .before .before .before .args .ns .now)) 2 (c .before .before .before .before .if1 .left))
-
-refused-requires-2 : tie.Need-refused-requires-2
-refused-requires-2 c κs = search needs
+returns-2 c = (simp (c .flag-at .ensures, simp (c .before .before .is-flag .ensures) at (c .before .if2 .taken), c .before .before .is-flag .ensures, eq-eqb _ _ (c .before .before .before .if1 .left)), tt)
 
 returns-3 : tie.Need-returns-3
 unfolding reportLine
-returns-3 c = simp (c .refused2 .ensures, simp (c .before .before .is-flag .ensures) at (c .before .if2 .left), c .before .before .is-flag .ensures, eq-eqb (length (c .before .before .before .before .before .args .ns .now)) 2 (c .before .before .before .if1 .left))
+returns-3 c = (simp (simp (c .before .is-flag .ensures) at (c .if2 .left), c .before .is-flag .ensures, eq-eqb _ _ (c .before .before .if1 .left)), tt)
 
 pub report-line-spec : {M : Type 1} → statement M
-report-line-spec =
-    tie.close
-    (tie.spec
-    refused-requires
-    returns
-    is-flag-requires
-    flag-at-requires
-    report-requires
-    returns-2
-    refused-requires-2
-    returns-3)
+report-line-spec = tie.close (tie.spec returns is-flag-requires flag-at-requires returns-2 returns-3)

@@ -7,10 +7,10 @@ use mathlib.Core.Path.{_≡_, refl}
 use mathlib.Core.List.{_++_, map}
 use lib.ListN.{length, take, drop, length-set}
 use lib.Ieee.{binary32, ofBits}
-use Rattle.requests.proofs.Floats.{mapped-next}
+use Rattle.sheet.proofs.Floats.{mapped-next}
 use lib.Seq.{take-length}
-use Rattle.requests.proofs.kinds.read_floats.Statement.{statement}
-use Rattle.requests.proofs.kinds.read_floats.Tie as tie
+use Rattle.sheet.proofs.entry.read_floats.Statement.{statement}
+use Rattle.sheet.proofs.entry.read_floats.Tie as tie
 
 abbrev Inv-loop : tie.InvT-loop
 Inv-loop numbers floats₀ i₀ floats i =
