@@ -1,6 +1,6 @@
 // Reads a sheet from standard input and answers each of its lines on standard output.
 
-ghost use Prim.Native.Nat.{_+_, _≤_};
+ghost use Prim.Native.Nat.{_+_, _≤_, _<_};
 ghost use mathlib.Core.Path.{_≡_};
 ghost use lib.ListN.{length};
 ghost use Rattle.sheet.specs.Lines.{keptWidth, whole, joined, statesAfter};
@@ -9,7 +9,6 @@ use falcon_core::state::Supervisor;
 use libc::STDIN_FILENO;
 use libc::STDOUT_FILENO;
 use sheet::lines::keep;
-use sheet::many::answer_last;
 use sheet::many::answer_lines;
 
 // The state after the lines of a read, the bytes that they took, and whether all answers so far were written.
@@ -90,12 +89,16 @@ fn turn(s: Supervisor, buf: &mut [u8], have: usize, out: &mut [u8]) -> Kept
     }
 }
 
-// A last line without newline.
-fn finish(s: Supervisor, is_written: bool, buf: &[u8], have: usize, out: &mut [u8])
-    requires { ⌜ (have ≤ length (now buf)) × (replyWidth ≤ length (now out)) ⌝ }
+// A last line without newline: one is put behind it.
+fn finish(s: Supervisor, is_written: bool, buf: &mut [u8], have: usize, out: &mut [u8])
+    requires { ⌜ (have < length (now buf)) × (replyWidth ≤ length (now out)) ⌝ }
 {
-    let n = answer_last(s, &buf[..have], out);
-    write(is_written, out, n);
+    if (have == 0) | !is_written {
+        return;
+    }
+    buf[have] = b'\n';
+    let end = have + 1;
+    drain(s, &buf[..end], out);
 }
 
 // The turns left: one less, or none at the input's end.
@@ -111,7 +114,7 @@ fn turns_left(goes_on: bool, turns: u64) -> u64
 
 // Reads to the input's end. A proved loop has to end, so it counts its turns down from a number that no run uses up.
 fn answer_all(buf: &mut [u8], out: &mut [u8])
-    requires { ⌜ (keptWidth ≤ length (now buf)) × (replyWidth ≤ length (now out)) ⌝ }
+    requires { ⌜ (keptWidth < length (now buf)) × (replyWidth ≤ length (now out)) ⌝ }
 {
     let mut supervisor = Supervisor::new();
     let mut have = 0;

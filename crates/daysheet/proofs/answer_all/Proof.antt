@@ -1,4 +1,4 @@
-use Prim.Native.Nat.{_≤_}
+use Prim.Native.Nat.{_<_}
 use native.Mathlib.Omega.{arith}
 use mathlib.Core.Path.{_≡_, refl}
 use lib.ListN.{length}
@@ -8,7 +8,7 @@ use Rattle.daysheet.proofs.answer_all.Tie as tie
 
 abbrev Inv-loop : tie.InvT-loop
 Inv-loop buf₀ out₀ supervisor₀ have₀ is-written₀ turns₀ buf out supervisor have is-written turns =
-    (have ≤ length buf) × ((length buf ≡ length buf₀) × (length out ≡ length out₀))
+    (have < length buf) × ((length buf ≡ length buf₀) × (length out ≡ length out₀))
 
 abbrev μ-loop : tie.MeasureT-loop
 μ-loop buf₀ out₀ supervisor₀ have₀ is-written₀ turns₀ buf out supervisor have is-written turns = turns
