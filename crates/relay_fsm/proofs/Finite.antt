@@ -210,14 +210,8 @@ allMG f = allM (λ m. allG (f m))
 abbrev pub allEG : (Event → Gates → Bool) → Bool
 allEG f = allE (λ e. allG (f e))
 
-abbrev pub allMEG : (Mode → Event → Gates → Bool) → Bool
-allMEG f = allM (λ m. allEG (f m))
-
 pub atMG : (f : Mode → Gates → Bool) → T (allMG f) → (m : Mode) (g : Gates) → T (f m g)
 atMG f t m = atG (f m) (atM (λ n. allG (f n)) t m)
 
 pub atEG : (f : Event → Gates → Bool) → T (allEG f) → (e : Event) (g : Gates) → T (f e g)
 atEG f t e = atG (f e) (atE (λ x. allG (f x)) t e)
-
-pub atMEG : (f : Mode → Event → Gates → Bool) → T (allMEG f) → (m : Mode) (e : Event) (g : Gates) → T (f m e g)
-atMEG f t m = atEG (f m) (atM (λ n. allEG (f n)) t m)

@@ -1,6 +1,6 @@
 -- Laws of the mode machine, for the crates above: what each event can lead to, ranks, failsafes, and the numbers of modes and events.
 -- Assumes nothing.
-use mathlib.Core.Path.{_≡_, refl, sym, _∙_, ap}
+use mathlib.Core.Path.{_≡_, refl, sym, _∙_, ap, ap₂, subst}
 use mathlib.Core.Bool.{Bool, true, false, _&&_, _||_, not, cond}
 use mathlib.Core.Logic.{_⊎_, inl, inr, ⊎-elim}
 use Prim.Native.Nat.{ℕ, _≤_, _<_}
@@ -18,12 +18,68 @@ use Rattle.relay_fsm.specs.declared.Gates.{Gates}
 use Rattle.relay_fsm.specs.Mode.{isMode, isAirborneOf, rankOf}
 use Rattle.relay_fsm.specs.Event.{eventCount, eventNumber, isEvent, allEvents, eventAt}
 use Rattle.relay_fsm.specs.Fsm.{isPair, rowOf, onOf}
-use Rattle.relay_fsm.proofs.Finite.{_⇒_, then, either, at-number, event-at, event-number-below, isMode→eq, eq→isMode, isEvent→eq, isPair→eq, atMG, atEG, atMEG}
+use Rattle.relay_fsm.proofs.Finite.{_⇒_, then, either, at-number, event-at, event-number-below, isMode→eq, eq→isMode, isEvent→eq, isPair→eq, allB, allM, allE, atB, atM, atE, atG, atMG, atEG}
 
 -- a mode n that is met either before, or by a pair under a gate
 entered : {P : Type 0} (m n : Mode) (pair gate : Bool) → (T pair → P) → T (isMode m n || (pair && gate)) → (m ≡ n) ⊎ (P × T gate)
 entered m n pair gate f t =
     ⊎-elim (λ u. inl (isMode→eq m n u)) (λ u. inr (f (and-l pair gate u), and-r pair gate u)) (either (isMode m n) (pair && gate) t)
+
+-- Armed
+
+-- Arm leads there only level, with low throttle and preflight passed
+arm-gates : (g : Gates) → onOf Disarmed Arm g ≡ Armed → T (g .level && g .«throttle_low» && g .«prearm_ok»)
+unfolding rowOf onOf
+arm-gates g h =
+    then (isMode (onOf Disarmed Arm g) Armed) (g .level && g .«throttle_low» && g .«prearm_ok»)
+    (atG (λ g. isMode (onOf Disarmed Arm g) Armed ⇒ (g .level && g .«throttle_low» && g .«prearm_ok»)) tt g)
+    (eq→isMode (onOf Disarmed Arm g) Armed h)
+
+-- every case with fewer gates
+
+-- what the machine reads of the gates: whether they let it arm, and whether there is a position
+abbrev ready : Gates → Bool
+ready g = g .level && g .«throttle_low» && g .«prearm_ok»
+
+abbrev gatesOf : Bool → Bool → Gates
+gatesOf a p = record { level = a; «throttle_low» = a; «have_position» = p; «prearm_ok» = a }
+
+same-ready : (i l t p : Bool) → (i && (l && t && p) && (l && t && p) && (l && t && p)) ≡ (i && l && t && p)
+same-ready false l t p = refl
+same-ready true false t p = refl
+same-ready true true false p = refl
+same-ready true true true false = refl
+same-ready true true true true = refl
+
+on-gates : (m : Mode) (e : Event) (g : Gates) → onOf m e (gatesOf (ready g) (g .«have_position»)) ≡ onOf m e g
+unfolding rowOf onOf
+on-gates m e g = rw (same-ready (isPair m e Disarmed Arm) (g .level) (g .«throttle_low») (g .«prearm_ok»))
+
+-- a rule over a mode, an event, the position, and the mode after, from one test of every case
+at-next : (f : Mode → Event → Bool → Mode → Bool)
+    → T (allM (λ m. allE (λ e. allB (λ a. allB (λ p. f m e p (onOf m e (gatesOf a p)))))))
+    → (m : Mode) (e : Event) (g : Gates) → T (f m e (g .«have_position») (onOf m e g))
+at-next f t m e g =
+    let rule : Mode → Event → Bool → Bool → Bool = λ m e a p. f m e p (onOf m e (gatesOf a p)) in
+    subst (λ n. T (f m e (g .«have_position») n)) (on-gates m e g)
+    (atB (rule m e (ready g))
+    (atB (λ a. allB (rule m e a)) (atE (λ e. allB (λ a. allB (rule m e a))) (atM (λ m. allE (λ e. allB (λ a. allB (rule m e a)))) t m) e) (ready g))
+    (g .«have_position»))
+
+-- another mode becomes Armed only from Disarmed by Arm, level, with low throttle and preflight passed
+pub armed-from :
+    (m : Mode) (e : Event) (g : Gates) → onOf m e g ≡ Armed
+    → (m ≡ Armed) ⊎ (((m ≡ Disarmed) × (e ≡ Arm)) × T (g .level && g .«throttle_low» && g .«prearm_ok»))
+unfolding rowOf onOf
+armed-from m e g h =
+    ⊎-elim (λ t. inl (isMode→eq m Armed t))
+    (λ t.
+    let pair : (m ≡ Disarmed) × (e ≡ Arm) = isPair→eq m e Disarmed Arm t in
+    inr (pair, arm-gates g (sym (ap₂ (λ m e. onOf m e g) (pair .0) (pair .1)) ∙ h)))
+    (either (isMode m Armed) (isPair m e Disarmed Arm)
+    (then (isMode (onOf m e g) Armed) (isMode m Armed || isPair m e Disarmed Arm)
+    (at-next (λ m e p n. isMode n Armed ⇒ (isMode m Armed || isPair m e Disarmed Arm)) tt m e g)
+    (eq→isMode (onOf m e g) Armed h)))
 
 -- Terminated
 
@@ -44,7 +100,7 @@ only-terminate-ends m e g h =
     ⊎-elim (λ t. inl (isMode→eq m Terminated t)) (λ t. inr (isEvent→eq e Terminate t))
     (either (isMode m Terminated) (isEvent e Terminate)
     (then (isMode (onOf m e g) Terminated) (isMode m Terminated || isEvent e Terminate)
-    (atMEG (λ m e g. isMode (onOf m e g) Terminated ⇒ (isMode m Terminated || isEvent e Terminate)) tt m e g)
+    (at-next (λ m e p n. isMode n Terminated ⇒ (isMode m Terminated || isEvent e Terminate)) tt m e g)
     (eq→isMode (onOf m e g) Terminated h)))
 
 -- Disarmed
@@ -62,25 +118,10 @@ disarmed-from m e g h =
     (either (isPair m e Armed RequestDisarm) (isPair m e Land Touchdown) t)))
     (either (isMode m Disarmed) (isPair m e Armed RequestDisarm || isPair m e Land Touchdown)
     (then (isMode (onOf m e g) Disarmed) (isMode m Disarmed || (isPair m e Armed RequestDisarm || isPair m e Land Touchdown))
-    (atMEG (λ m e g. isMode (onOf m e g) Disarmed ⇒ (isMode m Disarmed || (isPair m e Armed RequestDisarm || isPair m e Land Touchdown))) tt m e g)
+    (at-next (λ m e p n. isMode n Disarmed ⇒ (isMode m Disarmed || (isPair m e Armed RequestDisarm || isPair m e Land Touchdown))) tt m e g)
     (eq→isMode (onOf m e g) Disarmed h)))
 
--- Armed, Takeoff and Land
-
--- another mode becomes Armed only from Disarmed by Arm, level, with low throttle and preflight passed
-pub armed-from :
-    (m : Mode) (e : Event) (g : Gates) → onOf m e g ≡ Armed
-    → (m ≡ Armed) ⊎ (((m ≡ Disarmed) × (e ≡ Arm)) × T (g .level && g .«throttle_low» && g .«prearm_ok»))
-unfolding rowOf onOf
-armed-from m e g h =
-    entered m Armed (isPair m e Disarmed Arm) (g .level && g .«throttle_low» && g .«prearm_ok») (isPair→eq m e Disarmed Arm)
-    (then (isMode (onOf m e g) Armed) (isMode m Armed || (isPair m e Disarmed Arm && (g .level && g .«throttle_low» && g .«prearm_ok»)))
-    (atMEG
-    (λ m e g.
-    isMode (onOf m e g) Armed
-    ⇒ (isMode m Armed || (isPair m e Disarmed Arm && (g .level && g .«throttle_low» && g .«prearm_ok»))))
-    tt m e g)
-    (eq→isMode (onOf m e g) Armed h))
+-- Takeoff and Land
 
 -- another mode becomes Takeoff only from Armed by RequestTakeoff with a position
 pub takeoff-from :
@@ -90,7 +131,7 @@ unfolding rowOf onOf
 takeoff-from m e g h =
     entered m Takeoff (isPair m e Armed RequestTakeoff) (g .«have_position») (isPair→eq m e Armed RequestTakeoff)
     (then (isMode (onOf m e g) Takeoff) (isMode m Takeoff || (isPair m e Armed RequestTakeoff && g .«have_position»))
-    (atMEG (λ m e g. isMode (onOf m e g) Takeoff ⇒ (isMode m Takeoff || (isPair m e Armed RequestTakeoff && g .«have_position»))) tt m e g)
+    (at-next (λ m e p n. isMode n Takeoff ⇒ (isMode m Takeoff || (isPair m e Armed RequestTakeoff && p))) tt m e g)
     (eq→isMode (onOf m e g) Takeoff h))
 
 -- an airborne mode stays airborne but for Touchdown in Land and for Terminate
@@ -106,7 +147,7 @@ airborne-left m e g h =
     (either (isPair m e Land Touchdown) (isEvent e Terminate) t)))
     (either (isAirborneOf (onOf m e g)) (isPair m e Land Touchdown || isEvent e Terminate)
     (then (isAirborneOf m) (isAirborneOf (onOf m e g) || (isPair m e Land Touchdown || isEvent e Terminate))
-    (atMEG (λ m e g. isAirborneOf m ⇒ (isAirborneOf (onOf m e g) || (isPair m e Land Touchdown || isEvent e Terminate))) tt m e g)
+    (at-next (λ m e p n. isAirborneOf m ⇒ (isAirborneOf n || (isPair m e Land Touchdown || isEvent e Terminate))) tt m e g)
     h))
 
 -- Land is left by Touchdown and by Terminate alone
@@ -129,7 +170,7 @@ unfolding rowOf onOf
 rank-kept m e g =
     ⊎-elim (λ t. inl (leb→le _ _ t)) (λ t. inr (isPair→eq m e Land Touchdown t))
     (either (leb (rankOf m) (rankOf (onOf m e g))) (isPair m e Land Touchdown)
-    (atMEG (λ m e g. leb (rankOf m) (rankOf (onOf m e g)) || isPair m e Land Touchdown) tt m e g))
+    (at-next (λ m e p n. leb (rankOf m) (rankOf n) || isPair m e Land Touchdown) tt m e g))
 
 -- failsafe
 

@@ -1,15 +1,14 @@
 -- `lead` reads what begins a number of nine or ten digits.
 use native.Mathlib.Omega.{arith}
-use borrow.Author.Needs.{needs}
 use Rattle.columns.proofs.Words.{lead-one, lead-two}
 use Rattle.columns.proofs.field.lead.Statement.{statement}
 use Rattle.columns.proofs.field.lead.Tie as tie
 
 digit-requires : tie.Need-digit-requires
-digit-requires c κs = search needs
+digit-requires c κs = omega arith
 
 digit-requires-2 : tie.Need-digit-requires-2
-digit-requires-2 c κs = search needs
+digit-requires-2 c κs = omega arith
 
 returns : tie.Need-returns
 returns c = λ q. absurd (omega arith)
@@ -29,10 +28,10 @@ returns-5 : tie.Need-returns-5
 returns-5 c = λ q. absurd (omega arith)
 
 mul-result : tie.Need-mul-result
-mul-result c = search needs
+mul-result c = omega arith
 
 add-result : tie.Need-add-result
-add-result c = search needs
+add-result c = omega arith
 
 returns-6 : tie.Need-returns-6
 returns-6 c = λ q.

@@ -2,7 +2,6 @@
 use Prim.Native.Nat.{_-_}
 use native.Mathlib.Omega.{arith}
 use mathlib.Core.Path.{sym, _∙_}
-use borrow.Author.Needs.{needs}
 use Rattle.columns.specs.Field.{inRange}
 use Rattle.columns.proofs.FieldTurns.{DigitsTo, digits-first, digits-next, digits-fit, digits-last, at-none}
 use Rattle.columns.proofs.field.read_digits.Statement.{statement}
@@ -21,7 +20,7 @@ shared-slice-read-digit : tie.Need-shared-slice-read-digit Inv-loop μ-loop
 shared-slice-read-digit c = omega arith
 
 digit-requires : tie.Need-digit-requires Inv-loop μ-loop
-digit-requires c κs = search needs
+digit-requires c κs = omega arith
 
 returns : tie.Need-returns Inv-loop μ-loop
 unfolding inRange

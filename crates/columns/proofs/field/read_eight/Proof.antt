@@ -3,7 +3,6 @@ use Prim.Native.Nat.{_+_, _-_, _*_, _/_, _≤_}
 use native.Mathlib.Omega.{arith}
 use mathlib.Core.Path.{_∙_}
 use lib.Bits.{and-le-l, and-le-r}
-use borrow.Author.Needs.{needs}
 use Rattle.columns.proofs.FieldAgain.{in-range}
 use Rattle.columns.proofs.Words.{pairsOf, eight-most, eight-digits}
 use Rattle.columns.proofs.field.read_eight.Statement.{statement}
@@ -17,7 +16,7 @@ most c =
     (c .before .eight .ensures) (c .if1 .left)
 
 eight-requires : tie.Need-eight-requires
-eight-requires c κs = search needs
+eight-requires c κs = omega arith
 
 returns : tie.Need-returns
 returns c = λ q. absurd (omega arith)

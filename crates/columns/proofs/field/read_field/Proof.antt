@@ -1,15 +1,15 @@
 -- `read_field` says what `read_value` found.
-use borrow.Author.Needs.{needs}
+use native.Mathlib.Omega.{arith}
 use borrow.Author.Tests.{lt-ltb, le-ltb}
 use Rattle.columns.specs.Field.{inRange}
 use Rattle.columns.proofs.field.read_field.Statement.{statement}
 use Rattle.columns.proofs.field.read_field.Tie as tie
 
 read-value-requires : tie.Need-read-value-requires
-read-value-requires c κs = search needs
+read-value-requires c κs = c .before .pre
 
 cast-t5 : tie.Need-cast-t5
-cast-t5 c = search needs
+cast-t5 c = omega arith
 
 returns : tie.Need-returns
 unfolding inRange

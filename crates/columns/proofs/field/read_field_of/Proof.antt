@@ -3,7 +3,6 @@ use mathlib.Core.Path.{_≡_, ap, _∙_}
 use lib.ListN.{length}
 use lib.Seq.{take-all}
 use native.Mathlib.Omega.{arith}
-use borrow.Author.Needs.{needs}
 use borrow.Author.Tests.{ne-eqb}
 use Rattle.columns.specs.Field.{fieldWidth, readField}
 use Rattle.columns.proofs.field.read_field_of.Statement.{statement}
@@ -14,7 +13,7 @@ unfolding readField
 returns c = simp (ne-eqb _ _ (c .if1 .taken))
 
 read-field-requires : tie.Need-read-field-requires
-read-field-requires c κs = search needs
+read-field-requires c κs = omega arith
 
 returns-2 : tie.Need-returns-2
 returns-2 c =

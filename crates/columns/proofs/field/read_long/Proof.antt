@@ -1,56 +1,56 @@
 -- `read_long` reads nine or ten digits at once, and leaves any other field to `read_plain`.
-use borrow.Author.Needs.{needs}
+use native.Mathlib.Omega.{arith}
 use Rattle.columns.proofs.Words.{field-long}
 use Rattle.columns.proofs.field.read_long.Statement.{statement}
 use Rattle.columns.proofs.field.read_long.Tie as tie
 
 shared-slice-read-if1 : tie.Need-shared-slice-read-if1
-shared-slice-read-if1 c = search needs
+shared-slice-read-if1 c = omega arith
 
 read-plain-requires : tie.Need-read-plain-requires
-read-plain-requires c κs = search needs
+read-plain-requires c κs = c .before .before .before .pre
 
 returns : tie.Need-returns
-returns c = search needs
+returns c = c .read-plain .ensures
 
 add-lead : tie.Need-add-lead
-add-lead c = search needs
+add-lead c = omega arith
 
 shared-slice-read-lead : tie.Need-shared-slice-read-lead
-shared-slice-read-lead c = search needs
+shared-slice-read-lead c = omega arith
 
 add-lead-2 : tie.Need-add-lead-2
-add-lead-2 c = search needs
+add-lead-2 c = omega arith
 
 shared-slice-read-lead-2 : tie.Need-shared-slice-read-lead-2
-shared-slice-read-lead-2 c = search needs
+shared-slice-read-lead-2 c = omega arith
 
 lead-requires : tie.Need-lead-requires
-lead-requires c κs = search needs
+lead-requires c κs = tt
 
 read-plain-requires-2 : tie.Need-read-plain-requires-2
-read-plain-requires-2 c κs = search needs
+read-plain-requires-2 c κs = c .before .before .before .before .before .before .before .pre
 
 returns-2 : tie.Need-returns-2
-returns-2 c = search needs
+returns-2 c = c .read-plain2 .ensures
 
 add-read-eight : tie.Need-add-read-eight
-add-read-eight c = search needs
+add-read-eight c = omega arith
 
 read-eight-requires : tie.Need-read-eight-requires
-read-eight-requires c κs = search needs
+read-eight-requires c κs = omega arith
 
 read-plain-requires-3 : tie.Need-read-plain-requires-3
-read-plain-requires-3 c κs = search needs
+read-plain-requires-3 c κs = c .before .before .before .before .before .before .before .before .before .pre
 
 returns-3 : tie.Need-returns-3
-returns-3 c = search needs
+returns-3 c = c .read-plain3 .ensures
 
 mul-result : tie.Need-mul-result
-mul-result c = search needs
+mul-result c = omega arith
 
 add-result : tie.Need-add-result
-add-result c = search needs
+add-result c = omega arith
 
 returns-4 : tie.Need-returns-4
 returns-4 c =

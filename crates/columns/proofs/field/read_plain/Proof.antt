@@ -1,17 +1,16 @@
 -- `read_plain` is `readField` of the field: what its spaces end at decides.
 use native.Mathlib.Omega.{arith}
 use mathlib.Core.Path.{sym, _∙_}
-use borrow.Author.Needs.{needs}
 use Rattle.columns.specs.Field.{inRange}
 use Rattle.columns.proofs.FieldTurns.{field-none, field-leading, field-zero, field-digits}
 use Rattle.columns.proofs.field.read_plain.Statement.{statement}
 use Rattle.columns.proofs.field.read_plain.Tie as tie
 
 add-end : tie.Need-add-end
-add-end c = search needs
+add-end c = omega arith
 
 skip-spaces-requires : tie.Need-skip-spaces-requires
-skip-spaces-requires c κs = search needs
+skip-spaces-requires c κs = omega arith
 
 returns : tie.Need-returns
 unfolding inRange
@@ -21,10 +20,10 @@ returns c =
     sym (field-none (a .line .now) (a .at) (c .before .before .before .pre) (s .result) (s .ensures) (c .if1 .taken))
 
 shared-slice-read-if2 : tie.Need-shared-slice-read-if2
-shared-slice-read-if2 c = search needs
+shared-slice-read-if2 c = omega arith
 
 add-if3 : tie.Need-add-if3
-add-if3 c = search needs
+add-if3 c = omega arith
 
 returns-2 : tie.Need-returns-2
 unfolding inRange
@@ -41,7 +40,7 @@ returns-3 c =
     sym (field-zero (b .args .line .now) (b .args .at) (b .pre) (s .result) (s .ensures) (c .before .before .before .if1 .left) (c .before .if2 .taken) (omega arith))
 
 read-digits-requires : tie.Need-read-digits-requires
-read-digits-requires c κs = search needs
+read-digits-requires c κs = omega arith
 
 returns-4 : tie.Need-returns-4
 returns-4 c =

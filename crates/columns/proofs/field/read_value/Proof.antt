@@ -1,45 +1,45 @@
 -- `read_value` reads a digit behind ten spaces at once, and leaves any other field to `read_long` and `read_plain`.
 use mathlib.Core.Path.{sym, _∙_}
-use borrow.Author.Needs.{needs}
+use native.Mathlib.Omega.{arith}
 use Rattle.columns.proofs.Words.{field-one}
 use Rattle.columns.proofs.field.read_value.Statement.{statement}
 use Rattle.columns.proofs.field.read_value.Tie as tie
 
 eight-requires : tie.Need-eight-requires
-eight-requires c κs = search needs
+eight-requires c κs = omega arith
 
 read-long-requires : tie.Need-read-long-requires
-read-long-requires c κs = search needs
+read-long-requires c κs = c .before .before .before .pre
 
 returns : tie.Need-returns
-returns c = search needs
+returns c = c .read-long .ensures
 
 add-two : tie.Need-add-two
-add-two c = search needs
+add-two c = omega arith
 
 two-requires : tie.Need-two-requires
-two-requires c κs = search needs
+two-requires c κs = omega arith
 
 read-plain-requires : tie.Need-read-plain-requires
-read-plain-requires c κs = search needs
+read-plain-requires c κs = c .before .before .before .before .before .pre
 
 returns-2 : tie.Need-returns-2
-returns-2 c = search needs
+returns-2 c = c .read-plain .ensures
 
 add-digit : tie.Need-add-digit
-add-digit c = search needs
+add-digit c = omega arith
 
 shared-slice-read-digit : tie.Need-shared-slice-read-digit
-shared-slice-read-digit c = search needs
+shared-slice-read-digit c = omega arith
 
 digit-requires : tie.Need-digit-requires
-digit-requires c κs = search needs
+digit-requires c κs = tt
 
 read-plain-requires-2 : tie.Need-read-plain-requires-2
-read-plain-requires-2 c κs = search needs
+read-plain-requires-2 c κs = c .before .before .before .before .before .before .before .before .pre
 
 returns-3 : tie.Need-returns-3
-returns-3 c = search needs
+returns-3 c = c .read-plain2 .ensures
 
 returns-4 : tie.Need-returns-4
 returns-4 c =

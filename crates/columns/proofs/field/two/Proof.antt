@@ -1,21 +1,20 @@
 -- `two` is `twoAt`: two bytes fit.
 use Prim.Native.Nat.{_+_}
 use native.Mathlib.Omega.{arith}
-use borrow.Author.Needs.{needs}
 use Rattle.columns.proofs.field.two.Statement.{statement}
 use Rattle.columns.proofs.field.two.Tie as tie
 
 shared-slice-read-result : tie.Need-shared-slice-read-result
-shared-slice-read-result c = search needs
+shared-slice-read-result c = omega arith
 
 cast-result : tie.Need-cast-result
 cast-result c = omega (arith, c .shared-slice-known .given (c .before .args .at))
 
 add-result : tie.Need-add-result
-add-result c = search needs
+add-result c = omega arith
 
 shared-slice-read-result-2 : tie.Need-shared-slice-read-result-2
-shared-slice-read-result-2 c = search needs
+shared-slice-read-result-2 c = omega arith
 
 cast-result-2 : tie.Need-cast-result-2
 cast-result-2 c = omega (arith, c .shared-slice-known2 .given (c .before .before .args .at + 1))

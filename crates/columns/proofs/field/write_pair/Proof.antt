@@ -6,22 +6,22 @@ use Rattle.columns.proofs.field.write_pair.Statement.{statement}
 use Rattle.columns.proofs.field.write_pair.Tie as tie
 
 add-out : tie.Need-add-out
-add-out c = search needs
+add-out c = omega arith
 
 cast-out : tie.Need-cast-out
-cast-out c = search needs
+cast-out c = omega arith
 
 add-out-2 : tie.Need-add-out-2
-add-out-2 c = search needs
+add-out-2 c = omega arith
 
 slice-write-out : tie.Need-slice-write-out
-slice-write-out c = search needs
+slice-write-out c = omega arith
 
 add-out-3 : tie.Need-add-out-3
-add-out-3 c = search needs
+add-out-3 c = omega arith
 
 cast-out-2 : tie.Need-cast-out-2
-cast-out-2 c = search needs
+cast-out-2 c = omega arith
 
 slice-write-out-2 : tie.Need-slice-write-out-2
 slice-write-out-2 c = simp length-set (omega arith)

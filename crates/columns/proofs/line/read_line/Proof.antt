@@ -1,10 +1,9 @@
 -- `read_line` is `readWithin`: the length is tried first, and then a turn reads a field.
-use Prim.Native.Nat.{_-_, _/_, _≤_}
+use Prim.Native.Nat.{ℕ, _+_, _-_, _*_, _/_, _%_, _≤_, _<_}
 use native.Mathlib.Omega.{arith}
 use mathlib.Core.Path.{_≡_, refl, sym, _∙_}
 use lib.ListN.{length, length-set}
 use lib.Seq.{length-take-le}
-use borrow.Author.Needs.{needs}
 use Rattle.columns.specs.Field.{fieldWidth}
 use Rattle.columns.specs.Line.{readingOf, readWithin, fields}
 use Rattle.columns.proofs.LineAgain.{within-ok, within-none, within-uneven, within-long}
@@ -18,13 +17,39 @@ Inv-loop line numbers₀ n count at₀ k₀ numbers at k = ReadTo line count num
 abbrev μ-loop : tie.MeasureT-loop
 μ-loop line numbers₀ n count at₀ k₀ numbers at k = count - k
 
+-- lengths and places
+some : (n : ℕ) → (n ≡ 0 → ⊥) → 0 < n
+some n h = omega arith
+
+most : (n limit : ℕ) → n % fieldWidth ≡ 0 → n / fieldWidth ≤ limit → n ≤ fieldWidth * limit
+most n limit h k = omega arith
+
+over : (n limit : ℕ) → limit < n / fieldWidth → fieldWidth * limit < n
+over n limit h = omega arith
+
+whole : (n : ℕ) → fieldWidth * (n / fieldWidth) ≤ n
+whole n = omega arith
+
+field : (n at k : ℕ) → k < n / fieldWidth → at ≡ fieldWidth * k → at + fieldWidth ≤ n
+field n at k h e = omega arith
+
+place : (k count limit long : ℕ) → k < count → count ≤ limit → long ≡ limit → k < long
+place k count limit long h l e = omega arith
+
+places : (k count limit long : ℕ) → k ≤ count → count ≤ limit → long ≡ limit → k ≤ long
+places k count limit long h l e = omega arith
+
+less : (k count : ℕ) → k < count → count - (k + 1) < count - k
+less k count h = omega arith
+
 -- at the loop the length has been tried
 even : (c : tie.At-loop Inv-loop μ-loop)
     → let a = c .before .before .before .before .before .before .args in
     readWithin (length (a .numbers .now)) (a .line .now) ≡ fields (length (a .line .now) / fieldWidth) (a .line .now)
 even c =
     let a = c .before .before .before .before .before .before .args in
-    within-ok (length (a .numbers .now)) (a .line .now) (omega arith) (c .before .before .if2 .left) (omega arith)
+    within-ok (length (a .numbers .now)) (a .line .now) (some _ (c .before .before .before .if1 .left)) (c .before .before .if2 .left)
+    (most _ _ (c .before .before .if2 .left) (c .before .if3 .left))
 
 returns : tie.Need-returns Inv-loop μ-loop
 unfolding readingOf
@@ -42,19 +67,19 @@ returns-3 : tie.Need-returns-3 Inv-loop μ-loop
 unfolding readingOf
 returns-3 c =
     let a = c .before .before .before .before .before .args in
-    (sym (within-long (length (a .numbers .now)) (a .line .now) (omega arith)), tt)
+    (sym (within-long (length (a .numbers .now)) (a .line .now) (over _ _ (c .if3 .taken))), tt)
 
 loop-holds : tie.Need-loop-holds Inv-loop μ-loop
 loop-holds c = (read-first _ _ _, refl)
 
 read-field-requires : tie.Need-read-field-requires Inv-loop μ-loop
-read-field-requires c κs = search needs
+read-field-requires c κs = field _ _ _ (c .loop-test .taken) (c .before .loop .inv .0 .place)
 
 enum-known-v : tie.Need-enum-known-v Inv-loop μ-loop
-enum-known-v c = search needs
+enum-known-v c = c .match .keys1
 
 enum-told : tie.Need-enum-told Inv-loop μ-loop
-enum-told c = search needs
+enum-told c = c .match .keys2
 
 same-length : tie.Need-same-length Inv-loop μ-loop
 same-length c = c .before .before .before .before .loop .inv .1
@@ -67,24 +92,24 @@ returns-4 c =
     let a = turn .before .before .before .before .before .before .before .args in
     let bad = sym (c .before .before .read-field .ensures) ∙ c .enum-told .given .1 in (
       sym (even (turn .before)
-          ∙ read-bad (a .line .now) (length (a .line .now) / fieldWidth) (l .numbers) (l .at) (l .k) (omega arith) (turn .loop-test .taken) (l .inv .0) bad),
+          ∙ read-bad (a .line .now) (length (a .line .now) / fieldWidth) (l .numbers) (l .at) (l .k) (whole _) (turn .loop-test .taken) (l .inv .0) bad),
       tt,
     )
 
 mul-numbers : tie.Need-mul-numbers Inv-loop μ-loop
-mul-numbers c = search needs
+mul-numbers c = omega arith
 
 slice-write-numbers : tie.Need-slice-write-numbers Inv-loop μ-loop
-slice-write-numbers c = search needs
+slice-write-numbers c = place _ _ _ _ (c .before .before .before .before .loop-test .taken) (c .before .before .before .before .before .before .if3 .left) (c .before .before .before .before .before .loop .inv .1)
 
 add-at : tie.Need-add-at Inv-loop μ-loop
-add-at c = search needs
+add-at c = omega arith
 
 add-k : tie.Need-add-k Inv-loop μ-loop
-add-k c = search needs
+add-k c = omega arith
 
 loop-less : tie.Need-loop-less Inv-loop μ-loop
-loop-less c = search needs
+loop-less c = less _ _ (c .before .before .before .before .loop-test .taken)
 
 loop-again : tie.Need-loop-again Inv-loop μ-loop
 loop-again c =
@@ -92,8 +117,8 @@ loop-again c =
     let l = turn .before .loop in
     let a = turn .before .before .before .before .before .before .before .args in
     let number = sym (c .before .before .before .read-field .ensures) ∙ c .before .v .given .1 in (
-      read-next (a .line .now) (length (a .line .now) / fieldWidth) (l .numbers) (l .at) (l .k) (omega arith) (turn .loop-test .taken) (l .inv .0) _
-          (omega arith) number,
+      read-next (a .line .now) (length (a .line .now) / fieldWidth) (l .numbers) (l .at) (l .k) (whole _) (turn .loop-test .taken) (l .inv .0) _
+          (place _ _ _ _ (turn .loop-test .taken) (turn .before .before .if3 .left) (l .inv .1)) number,
       simp length-set (l .inv .1),
     )
 
@@ -104,7 +129,7 @@ returns-5 : tie.Need-returns-5 Inv-loop μ-loop
 unfolding readingOf
 returns-5 c =
     let l = c .before .loop in
-    let room : l .k ≤ length (l .numbers) = omega (arith, l .inv .0 .most, l .inv .1) in
+    let room : l .k ≤ length (l .numbers) = places _ _ _ _ (l .inv .0 .most) (c .before .before .if3 .left) (l .inv .1) in
     (sym (even (c .before) ∙ read-last _ _ _ _ _ (c .loop-test .left) (l .inv .0)), (room, sym (length-take-le _ _ room)))
 
 pub read-line-spec : {M : Type 1} → statement M

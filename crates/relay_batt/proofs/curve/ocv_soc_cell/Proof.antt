@@ -1,9 +1,13 @@
 -- `ocv_soc_cell` is `ocvSocCellOf`. The loop's invariant: what is found from the place i on is the answer.
-use Prim.Native.Nat.{_≤_, _-_}
+use Prim.Native.Nat.{ℕ, _+_, _-_, _*_, _^_, _≤_, _<_}
 use mathlib.Core.Path.{_≡_, sym, ap, _∙_}
+use mathlib.Core.Bool.{true, false}
 use native.Mathlib.Omega.{arith}
+use lib.Dec.{lit≤}
+use lib.Ieee.{Float, le}
+use lib.ListN.{getD}
 use borrow.Author.Needs.{needs}
-use Rattle.relay_batt.specs.Curve.{knots, tableOf, ocvSocCellOf}
+use Rattle.relay_batt.specs.Curve.{zero, sanitizeOf, knot, knots, tableOf, cellMax, ocvSocCellOf}
 use Rattle.relay_batt.proofs.Walk.{rest, found, passed, ended}
 use Rattle.relay_batt.proofs.curve.ocv_soc_cell.Statement.{statement}
 use Rattle.relay_batt.proofs.curve.ocv_soc_cell.Tie as tie
@@ -14,58 +18,97 @@ Inv-loop v-cell v i₀ i = (1 ≤ i) × (i ≤ 8) × (rest knots v i ≡ ocvSocC
 abbrev μ-loop : tie.MeasureT-loop
 μ-loop v-cell v i₀ i = 8 - i
 
+-- places of the table
+module _ (i : ℕ) (h : i < 8) where
+  scaled : i * 8 < 2 ^ 64
+  scaled = omega arith
+
+  scaled-before : (i - 1) * 8 < 2 ^ 64
+  scaled-before = omega arith
+
+  before-fits : i - 1 < 8
+  before-fits = omega arith
+
+  next-fits : i + 1 < 2 ^ 64
+  next-fits = omega arith
+
+  one-more : 1 ≤ i + 1
+  one-more = omega arith
+
+  next : i + 1 ≤ 8
+  next = omega arith
+
+  less : 8 - (i + 1) < 8 - i
+  less = omega arith
+
+-- the volts of the first knot
+abbrev lowest : Float
+lowest = getD knots 0 (knot 0 0) .v
+
+-- the answer up to there, and what is left above
+module _ (x : Float) {v : Float} (cut : v ≡ sanitizeOf x zero cellMax zero) where
+  below : le v lowest ≡ true → zero ≡ ocvSocCellOf x
+  unfolding knots tableOf ocvSocCellOf
+  below h = simp (sym cut, h)
+
+  above : le v lowest ≡ false → rest knots v 1 ≡ ocvSocCellOf x
+  unfolding knots tableOf ocvSocCellOf
+  above h = simp (sym cut, h)
+
 sanitize-requires : tie.Need-sanitize-requires Inv-loop μ-loop
-sanitize-requires c κs = search needs
+sanitize-requires c κs = tt
 
 element-copy-out-if1 : tie.Need-element-copy-out-if1 Inv-loop μ-loop
 element-copy-out-if1 c = search needs
 
 returns : tie.Need-returns Inv-loop μ-loop
-unfolding knots tableOf ocvSocCellOf
-returns c = simp (sym (c .before .sanitize .ensures), c .if1 .taken)
+unfolding knots
+returns c = below (c .before .before .args .v-cell) (c .before .sanitize .ensures) (c .if1 .taken)
 
 loop-holds : tie.Need-loop-holds Inv-loop μ-loop
-unfolding knots tableOf ocvSocCellOf
-loop-holds c = (search needs, search needs, simp (sym (c .before .sanitize .ensures), c .if1 .left))
+unfolding knots
+loop-holds c = (lit≤ tt, lit≤ tt, above (c .before .before .args .v-cell) (c .before .sanitize .ensures) (c .if1 .left))
 
 mul-k1 : tie.Need-mul-k1 Inv-loop μ-loop
-mul-k1 c = search needs
+mul-k1 c = record { fits = scaled _ (c .loop-test .taken) }
 
 array-copy-out-k1 : tie.Need-array-copy-out-k1 Inv-loop μ-loop
-array-copy-out-k1 c = search needs
+array-copy-out-k1 c = c .loop-test .taken
 
 sub-k0 : tie.Need-sub-k0 Inv-loop μ-loop
-sub-k0 c = search needs
+sub-k0 c = c .before .before .before .before .loop .inv .0
 
 mul-k0 : tie.Need-mul-k0 Inv-loop μ-loop
-mul-k0 c = search needs
+mul-k0 c = record { fits = scaled-before _ (c .before .before .before .loop-test .taken) }
 
 array-copy-out-k0 : tie.Need-array-copy-out-k0 Inv-loop μ-loop
-array-copy-out-k0 c = search needs
+array-copy-out-k0 c = before-fits _ (c .before .before .before .loop-test .taken)
 
 segment-requires : tie.Need-segment-requires Inv-loop μ-loop
-segment-requires c κs = search needs
+segment-requires c κs = tt
 
 returns-2 : tie.Need-returns-2 Inv-loop μ-loop
 unfolding knots
 returns-2 c =
+    let head = c .before .before .before .before .before .before in
     c .segment .ensures
-    ∙ sym (found knots _ _ (c .before .before .before .before .before .loop-test .taken) (c .before .before .if2 .taken))
-    ∙ c .before .before .before .before .before .before .loop .inv .2
+    ∙ sym (found knots (head .before .before .sanitize .result) (head .loop .i) (c .before .before .before .before .before .loop-test .taken) (c .before .before .if2 .taken))
+    ∙ head .loop .inv .2
 
 add-i : tie.Need-add-i Inv-loop μ-loop
-add-i c = search needs
+add-i c = record { fits = next-fits _ (c .before .before .before .loop-test .taken) }
 
 loop-less : tie.Need-loop-less Inv-loop μ-loop
-loop-less c = search needs
+loop-less c = less _ (c .before .before .before .loop-test .taken)
 
 loop-again : tie.Need-loop-again Inv-loop μ-loop
 unfolding knots
-loop-again c = (
-  search needs,
-  search needs,
-  sym (passed knots _ _ (c .before .before .before .loop-test .taken) (c .if2 .left)) ∙ c .before .before .before .before .loop .inv .2,
-)
+loop-again c =
+    let head = c .before .before .before .before in (
+      one-more _ (c .before .before .before .loop-test .taken),
+      next _ (c .before .before .before .loop-test .taken),
+      sym (passed knots (head .before .before .sanitize .result) (head .loop .i) (c .before .before .before .loop-test .taken) (c .if2 .left)) ∙ head .loop .inv .2,
+    )
 
 returns-3 : tie.Need-returns-3 Inv-loop μ-loop
 returns-3 c =

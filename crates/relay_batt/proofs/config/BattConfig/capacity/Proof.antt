@@ -9,7 +9,7 @@ sanitize-requires c κs = search needs
 
 returns : tie.Need-returns
 unfolding capacityOf
-returns c = cc
+returns c = c .sanitize .ensures
 
 pub capacity-spec : {M : Type 1} → statement M
 capacity-spec = tie.close (tie.spec sanitize-requires returns)

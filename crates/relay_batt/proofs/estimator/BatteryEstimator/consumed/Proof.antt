@@ -1,5 +1,7 @@
 -- `consumed` is `consumedOf`, by what each call ensures.
+use mathlib.Core.Path.{ap₂, _∙_}
 use borrow.Author.Needs.{needs}
+use Rattle.relay_batt.specs.Curve.{zero, sanitizeOf}
 use Rattle.relay_batt.specs.Estimator.{consumedOf}
 use Rattle.relay_batt.proofs.estimator.BatteryEstimator.consumed.Statement.{statement}
 use Rattle.relay_batt.proofs.estimator.BatteryEstimator.consumed.Tie as tie
@@ -12,7 +14,9 @@ sanitize-requires c κs = search needs
 
 returns : tie.Need-returns
 unfolding consumedOf
-returns c = cc
+returns c =
+    c .sanitize .ensures
+    ∙ ap₂ (sanitizeOf _ zero) (c .before .before .capacity .ensures) (c .before .before .capacity .ensures)
 
 pub consumed-spec : {M : Type 1} → statement M
 consumed-spec = tie.close (tie.spec capacity-requires sanitize-requires returns)

@@ -9,7 +9,7 @@ sanitize-requires c κs = search needs
 
 returns : tie.Need-returns
 unfolding restOf
-returns c = cc
+returns c = c .sanitize .ensures
 
 pub rest-volts-spec : {M : Type 1} → statement M
 rest-volts-spec = tie.close (tie.spec sanitize-requires returns)

@@ -1,6 +1,7 @@
 -- `update_amps` is `updateAmpsOf`, by what each call ensures.
+use mathlib.Core.Path.{_∙_}
 use borrow.Author.Needs.{needs}
-use Rattle.relay_batt.specs.Estimator.{updateAmpsOf}
+use Rattle.relay_batt.specs.Estimator.{updateAmpsOf, withAmpsOf}
 use Rattle.relay_batt.proofs.estimator.BatteryEstimator.update_amps.Statement.{statement}
 use Rattle.relay_batt.proofs.estimator.BatteryEstimator.update_amps.Tie as tie
 
@@ -18,7 +19,9 @@ with-amps-requires c κs = search needs
 
 returns : tie.Need-returns
 unfolding updateAmpsOf
-returns c = cc
+returns c =
+    c .with-amps .ensures
+    ∙ λ i. withAmpsOf (c .before .before .before .before .args .self) (c .before .before .before .sanitize .ensures i) (c .before .before .sanitize2 .ensures i) (c .before .sanitize3 .ensures i)
 
 pub update-amps-spec : {M : Type 1} → statement M
 update-amps-spec =

@@ -1,6 +1,7 @@
 -- `update_volts` is `updateVoltsOf`, by what each call ensures.
+use mathlib.Core.Path.{ap₂, _∙_}
 use borrow.Author.Needs.{needs}
-use Rattle.relay_batt.specs.Estimator.{updateVoltsOf}
+use Rattle.relay_batt.specs.Estimator.{updateVoltsOf, voltsOnlyOf}
 use Rattle.relay_batt.proofs.estimator.BatteryEstimator.update_volts.Statement.{statement}
 use Rattle.relay_batt.proofs.estimator.BatteryEstimator.update_volts.Tie as tie
 
@@ -15,7 +16,9 @@ volts-only-requires c κs = search needs
 
 returns : tie.Need-returns
 unfolding updateVoltsOf
-returns c = cc
+returns c =
+    c .volts-only .ensures
+    ∙ ap₂ (voltsOnlyOf _) (c .before .before .sanitize .ensures) (c .before .sanitize2 .ensures)
 
 pub update-volts-spec : {M : Type 1} → statement M
 update-volts-spec =

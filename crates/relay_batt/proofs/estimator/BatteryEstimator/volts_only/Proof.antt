@@ -1,6 +1,16 @@
 -- `volts_only` is `voltsOnlyOf`, by what each call ensures.
+use mathlib.Core.Path.{_≡_}
+use mathlib.Core.Bool.{true, false}
+use lib.Ieee.{Float, binary32, div, lt}
 use borrow.Author.Needs.{needs}
-use Rattle.relay_batt.specs.Estimator.{voltsOnlyOf}
+use Rattle.relay_batt.specs.Curve.{zero, ocvSocCellOf}
+use Rattle.relay_batt.specs.Config.{cellsOf}
+use Rattle.relay_batt.specs.Latch.{tripOf}
+use Rattle.relay_batt.specs.Estimator.{shownOf, voltsOnlyOf}
+use Rattle.relay_batt.specs.declared.latch.TripLatch.{TripLatch}
+use Rattle.relay_batt.specs.declared.estimator.BattState.{BattState}
+use Rattle.relay_batt.specs.declared.estimator.BatteryEstimator.{BatteryEstimator}
+use Rattle.relay_batt.specs.declared.estimator.Updated.{Updated}
 use Rattle.relay_batt.proofs.estimator.BatteryEstimator.volts_only.Statement.{statement}
 use Rattle.relay_batt.proofs.estimator.BatteryEstimator.volts_only.Tie as tie
 
@@ -19,9 +29,42 @@ update-requires-2 c κs = search needs
 shown-requires : tie.Need-shown-requires
 shown-requires c κs = search needs
 
-returns : tie.Need-returns
+-- the estimator that is handed on
+abbrev after : BatteryEstimator → TripLatch → TripLatch → BatteryEstimator
+after e low critical = record {
+  cfg = e .cfg;
+  «consumed_mah» = e .«consumed_mah»;
+  «r_est» = e .«r_est»;
+  «prev_v» = e .«prev_v»;
+  «prev_i» = e .«prev_i»;
+  «have_prev» = false;
+  low = low;
+  critical = critical;
+}
+
+-- the facts of the calls, put together
+joined :
+    (e : BatteryEstimator) (dt v : Float) {cells soc : Float} {low critical : TripLatch} {state : BattState} →
+    cells ≡ cellsOf (e .cfg) →
+    soc ≡ ocvSocCellOf (div binary32 v cells) →
+    low ≡ tripOf (e .low) dt (lt (div binary32 v cells) (e .cfg .«low_v_cell_fallback»)) (e .cfg .«debounce_s») →
+    critical ≡ tripOf (e .critical) dt (lt (div binary32 v cells) (e .cfg .«crit_v_cell_fallback»)) (e .cfg .«debounce_s») →
+    state ≡ shownOf (after e low critical) v v zero soc true →
+    _≡_ {A = Updated} record { est = after e low critical; state = state } (voltsOnlyOf e dt v)
 unfolding voltsOnlyOf
-returns c = simp (c .shown .ensures, c .before .update2 .ensures, c .before .before .before .before .update .ensures, c .before .before .before .before .before .before .before .ocv-soc-cell .ensures, c .before .before .before .before .before .before .before .before .cell-count .ensures)
+joined e dt v p s l k h = simp (h, k, l, s, p)
+
+returns : tie.Need-returns
+returns c =
+    joined
+    (c .before .before .before .before .before .before .before .before .before .before .args .self)
+    (c .before .before .before .before .before .before .before .before .before .before .args .dt)
+    (c .before .before .before .before .before .before .before .before .before .before .args .v)
+    (c .before .before .before .before .before .before .before .before .cell-count .ensures)
+    (c .before .before .before .before .before .before .before .ocv-soc-cell .ensures)
+    (c .before .before .before .before .update .ensures)
+    (c .before .update2 .ensures)
+    (c .shown .ensures)
 
 pub volts-only-spec : {M : Type 1} → statement M
 volts-only-spec =
