@@ -6,7 +6,7 @@ use Rattle.falcon_core.specs.declared.calls.Output.{Output}
 use Rattle.falcon_core.specs.declared.calls.Output.the-variants.{Nothing, Ticks}
 use Rattle.falcon_flight.specs.declared.tick.TickAnswer.the-variants.{MotorsOff, Setpoint}
 use Rattle.falcon_core.specs.Calls.{outputNumbers, numbersOf}
-use Rattle.columns.specs.Line.{answerFields}
+use Rattle.call_lists.specs.Entry.{answerFields}
 
 -- an output has six
 pub output-count : (o : Output) → length (outputNumbers o) ≡ 6

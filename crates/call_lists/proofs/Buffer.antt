@@ -6,11 +6,11 @@ use borrow.Author.Tests.{lt-ltb, le-ltb}
 use lib.ListN.{length, drop}
 use Rattle.falcon_core.specs.declared.state.Supervisor.{Supervisor}
 use Rattle.falcon_core.specs.Calls.{refusedOf, numbersOf}
-use Rattle.columns.specs.Line.{answerWidth, lineOf, writtenOver}
+use Rattle.columns.specs.Line.{lineOf, writtenOver}
 use Rattle.requests.specs.Kinds.{answeredBy}
 use Rattle.requests.specs.Line.{askedLine}
 use Rattle.call_lists.proofs.Answer.{numbers-count}
-use Rattle.call_lists.specs.Entry.{shortBuffer, askedWith, lineStep, replyOf, bufferAfter}
+use Rattle.call_lists.specs.Entry.{answerWidth, shortBuffer, askedWith, lineStep, replyOf, bufferAfter}
 
 -- under 110 bytes of buffer
 module _ (s : Supervisor) (line out : List ℕ) (h : length out < answerWidth) where

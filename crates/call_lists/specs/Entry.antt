@@ -1,5 +1,5 @@
 -- A call by line: the state, the refusal and the whole buffer after it.
-use Prim.Native.Nat.{ℕ}
+use Prim.Native.Nat.{ℕ, _*_}
 use mathlib.Core.Bool.{cond}
 use mathlib.Core.List.{List, _++_}
 use lib.Dec.{ltb}
@@ -7,9 +7,18 @@ use lib.ListN.{length, drop}
 use Rattle.falcon_core.specs.declared.state.Supervisor.{Supervisor}
 use Rattle.falcon_core.specs.declared.calls.Answered.{Answered}
 use Rattle.falcon_core.specs.Calls.{numbersOf}
-use Rattle.columns.specs.Line.{answerWidth, lineOf}
+use Rattle.columns.specs.Field.{fieldWidth}
+use Rattle.columns.specs.Line.{lineOf}
 use Rattle.requests.specs.Kinds.{Asked, refuses, answeredBy}
 use Rattle.requests.specs.Line.{askedLine}
+
+-- "Answer, ten fields"
+abbrev pub answerFields : ℕ
+answerFields = 10
+
+-- "110 bytes"
+abbrev pub answerWidth : ℕ
+answerWidth = fieldWidth * answerFields
 
 -- 9: "answer buffer under 110 bytes; nothing written"
 abbrev pub shortBuffer : ℕ

@@ -15,14 +15,6 @@ use Rattle.columns.specs.Field.{fieldWidth, readField, fieldOf}
 abbrev pub lineFields : ℕ
 lineFields = 130
 
--- "Answer, ten fields"
-abbrev pub answerFields : ℕ
-answerFields = 10
-
--- "110 bytes"
-abbrev pub answerWidth : ℕ
-answerWidth = fieldWidth * answerFields
-
 -- what a line says: its numbers, or that it is no sheet line
 pub data Reading : Type 0 where
   read : List ℕ → Reading

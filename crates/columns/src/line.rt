@@ -10,12 +10,6 @@ use crate::field::read_field;
 // The most fields of a line.
 pub const LINE_FIELDS: usize = 130;
 
-// The fields of an ordinary answer.
-pub const ANSWER_FIELDS: usize = 10;
-
-// The bytes of an ordinary answer.
-pub const ANSWER: usize = FIELD * ANSWER_FIELDS;
-
 // What a line says: how many numbers, which the caller's array holds.
 pub enum LineRead {
     Numbers(usize),

@@ -11,10 +11,10 @@ use Rattle.falcon_core.specs.declared.state.Supervisor.{Supervisor}
 use Rattle.falcon_core.specs.Calls.{numbersOf}
 use Rattle.sheet.specs.declared.many.Progress.{Progress}
 use Rattle.columns.specs.Field.{fieldWidth, put}
-use Rattle.columns.specs.Line.{Reading, answerWidth, lineFields}
+use Rattle.columns.specs.Line.{Reading, lineFields}
 use Rattle.sheet.specs.Lines.{newline, whole, joined, lastLine, linesOf, together, answers, stream}
 use Rattle.requests.specs.Kinds.{answeredBy}
-use Rattle.call_lists.specs.Entry.{replyOf}
+use Rattle.call_lists.specs.Entry.{answerWidth, replyOf}
 use Rattle.requests.specs.Line.{askedBy, askedLine}
 use Rattle.sheet.specs.Many.{afterLine, replyLine, replyWidth, fitting, replies, progressOf, answersOver}
 use Rattle.call_lists.proofs.Answer.{numbers-count}

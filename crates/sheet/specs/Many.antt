@@ -4,10 +4,9 @@ use mathlib.Core.List.{List, _++_}
 use lib.ListN.{length, take, drop}
 use Rattle.falcon_core.specs.declared.state.Supervisor.{Supervisor}
 use Rattle.sheet.specs.declared.many.Progress.{Progress}
-use Rattle.columns.specs.Line.{answerWidth}
 use Rattle.sheet.specs.Lines.{joined, answers, statesAfter}
 use Rattle.requests.specs.Kinds.{answeredBy}
-use Rattle.call_lists.specs.Entry.{replyOf}
+use Rattle.call_lists.specs.Entry.{answerWidth, replyOf}
 use Rattle.requests.specs.Line.{askedLine}
 
 -- the state after a line

@@ -9,8 +9,8 @@ ghost use Rattle.columns.specs.Line.{writtenOver, lineFields};
 ghost use Rattle.requests.specs.Kinds.{answeredBy, numberAt, listLine, listFloats, kindAsks, Listed};
 ghost use Rattle.call_lists.specs.Entry.{lineStep, bufferAfter};
 ghost use Rattle.sheet.specs.Entry.{lineAnswered};
+use columns::field::FIELD;
 use columns::field::write_numbers;
-use columns::line::ANSWER;
 use columns::line::LINE_FIELDS;
 use falcon_core::calls::Answer;
 use falcon_core::calls::Answered;
@@ -19,6 +19,12 @@ use falcon_core::state::Supervisor;
 use relay_math::from_bits;
 use requests::kinds::Kind;
 use requests::line::asked;
+
+// The fields of an answer.
+pub const ANSWER_FIELDS: usize = 10;
+
+// The bytes of an answer.
+pub const ANSWER: usize = FIELD * ANSWER_FIELDS;
 
 // 9: the answer buffer is too short.
 pub const SHORT_BUFFER: u32 = 9;

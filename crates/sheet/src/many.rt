@@ -9,9 +9,9 @@ ghost use Rattle.columns.specs.Field.{put};
 ghost use Rattle.columns.specs.Line.{lineFields};
 ghost use Rattle.sheet.specs.Lines.{newline, whole, lastLine, linesOf};
 ghost use Rattle.sheet.specs.Many.{afterLine, replyLine, replyWidth, fitting, replies, progressOf, answersOver};
+use crate::entry::ANSWER;
 use crate::entry::answer_with;
 use crate::lines::find_newline;
-use columns::line::ANSWER;
 use columns::line::LINE_FIELDS;
 use falcon_core::state::Supervisor;
 

@@ -6,9 +6,8 @@ use lib.ListN.{length, take, drop, length-drop}
 use borrow.Author.Needs.{needs}
 use Rattle.falcon_core.specs.declared.calls.Answered.{Answered}
 use Rattle.sheet.specs.declared.entry.LineAnswered.{LineAnswered}
-use Rattle.columns.specs.Line.{answerWidth}
 use Rattle.sheet.specs.Lines.{newline}
-use Rattle.call_lists.specs.Entry.{replyOf}
+use Rattle.call_lists.specs.Entry.{answerWidth, replyOf}
 use Rattle.sheet.specs.Many.{afterLine, replyLine}
 use Rattle.call_lists.proofs.Buffer.{full-step, full-buffer}
 use Rattle.sheet.proofs.Replies.{length-reply}
