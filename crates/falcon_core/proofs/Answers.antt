@@ -17,7 +17,14 @@ use Rattle.falcon_guidance.specs.Mission.{triedOf, allAdmissibleOf, loadedOf}
 use Rattle.falcon_guidance.specs.declared.state.Zones.{Zones}
 use Rattle.falcon_guidance.specs.Zones.{loadedZonesOf}
 use Rattle.falcon_flight.specs.Tick.{tickOf}
-use Rattle.falcon_core.specs.Calls.{Request, ticks, points, zones, dueAfter, refusalOf, afterOf, outputOf, refusedOf, acceptedOf, stepOf}
+use Rattle.relay_fsm.specs.declared.Event.{Event}
+use Rattle.falcon_failsafe.specs.declared.state.FlightSupervisor.{FlightSupervisor}
+use Rattle.falcon_failsafe.specs.declared.state.Opening.{Opening}
+use Rattle.falcon_failsafe.specs.State.{openedOf}
+use Rattle.falcon_failsafe.specs.Failsafe.{reportedOf}
+use Rattle.falcon_core.specs.Calls.{Request, opens, ticks, reports, commands, points, zones, miscounted, masksTooLarge, isOpening, isReport}
+use Rattle.falcon_core.specs.Calls.{noOpening, wrongCount, outOfRange, reportDue, noReportDue, inadmissible}
+use Rattle.falcon_core.specs.Calls.{commandedBy, dueAfter, refusalOf, afterOf, outputOf, refusedOf, acceptedOf, stepOf}
 
 -- a refusal that fits is answered and keeps the state
 pub step-refused : (s : Supervisor) (r : Request) (n : ℕ) → refusalOf s r ≡ suc n → stepOf s r ≡ refusedOf s (suc n)
@@ -28,6 +35,78 @@ step-refused s r n h = rw (h, eqb·suc-zero n)
 pub step-accepted : (s : Supervisor) (r : Request) → refusalOf s r ≡ 0 → stepOf s r ≡ acceptedOf (afterOf s r) (outputOf s r)
 unfolding stepOf
 step-accepted s r h = rw h
+
+-- the refusal of a request by the first test that holds
+module _ (s : Supervisor) (r : Request) where
+  pub count-refused : miscounted r ≡ true → refusedOf s wrongCount ≡ stepOf s r
+  unfolding refusalOf
+  count-refused w = sym (step-refused s r _ (rw w))
+
+  pub masks-refused : miscounted r ≡ false → masksTooLarge r ≡ true → refusedOf s outOfRange ≡ stepOf s r
+  unfolding refusalOf
+  masks-refused w m = sym (step-refused s r _ (rw (w, m)))
+
+  pub unopened-refused :
+      miscounted r ≡ false → masksTooLarge r ≡ false → isOpening r ≡ false → not (s .opened) ≡ true → refusedOf s noOpening ≡ stepOf s r
+  unfolding refusalOf
+  unopened-refused w m i o = sym (step-refused s r _ (rw (w, m, i, o)))
+
+  pub due-refused :
+      miscounted r ≡ false →
+      masksTooLarge r ≡ false →
+      isOpening r ≡ false →
+      isReport r ≡ false →
+      not (s .opened) ≡ false →
+      s .«report_due» ≡ true →
+      refusedOf s reportDue ≡ stepOf s r
+  unfolding refusalOf
+  due-refused w m i p o d = sym (step-refused s r _ (rw (w, m, i, p, o, d)))
+
+module _ (s : Supervisor) where
+  pub undue-refused : (failed : Bool) → not (s .opened) ≡ false → not (s .«report_due») ≡ true → refusedOf s noReportDue ≡ stepOf s (reports failed)
+  unfolding refusalOf
+  undue-refused failed o d = sym (step-refused s (reports failed) _ (rw (o, d)))
+
+  pub point-refused :
+      (l : List Float) (ok : Bool) →
+      ok ≡ allAdmissibleOf (s .flight .config) l (triedOf l) →
+      eqb (length l % 3) 0 ≡ true →
+      not (s .opened) ≡ false →
+      s .«report_due» ≡ false →
+      not ok ≡ true →
+      refusedOf s inadmissible ≡ stepOf s (points l)
+  unfolding refusalOf
+  point-refused l ok e c o d b = sym (step-refused s (points l) _ (rw (c, o, d, ← e, b)))
+
+  -- an accepted opening, from what its parts are
+  pub opening-accepted :
+      (o : Opening) (f : FlightSupervisor) →
+      f ≡ openedOf o →
+      masksTooLarge (opens o) ≡ false →
+      acceptedOf (record { flight = f; opened = true; «report_due» = false }) Nothing ≡ stepOf s (opens o)
+  unfolding refusalOf afterOf outputOf
+  opening-accepted o f e m = let h : refusalOf s (opens o) ≡ 0 = rw m in rw (step-accepted s (opens o) h, e)
+
+  -- an accepted report, from what its parts are
+  pub report-accepted :
+      (failed : Bool) (f : FlightSupervisor) →
+      f ≡ reportedOf (s .flight) failed →
+      not (s .opened) ≡ false →
+      not (s .«report_due») ≡ false →
+      acceptedOf (record { flight = f; opened = s .opened; «report_due» = false }) Nothing ≡ stepOf s (reports failed)
+  unfolding refusalOf afterOf outputOf
+  report-accepted failed f e o d = let h : refusalOf s (reports failed) ≡ 0 = rw (o, d) in rw (step-accepted s (reports failed) h, e)
+
+  -- an accepted command, from what its parts are
+  pub command-accepted :
+      (ev : Event) (level low : Bool) (f : FlightSupervisor) →
+      f ≡ commandedBy (s .flight) ev level low →
+      not (s .opened) ≡ false →
+      s .«report_due» ≡ false →
+      acceptedOf (record { flight = f; opened = s .opened; «report_due» = s .«report_due» }) Nothing ≡ stepOf s (commands ev level low)
+  unfolding refusalOf afterOf outputOf
+  command-accepted ev level low f e o d =
+      let h : refusalOf s (commands ev level low) ≡ 0 = rw (o, d) in rw (step-accepted s (commands ev level low) h, e)
 
 -- an accepted tick, from what its parts are
 pub tick-accepted :

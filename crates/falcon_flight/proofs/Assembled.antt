@@ -18,6 +18,7 @@ use Rattle.falcon_failsafe.specs.Failsafe.{clearedLatch, clearedOf, breachOf, b
 use Rattle.falcon_failsafe.specs.Failsafe.{tiltedOf, runawayCounted, runawayGives, runawayIn, runawayOf}
 use Rattle.falcon_failsafe.specs.Failsafe.{gustyOf, windCounted, windGives, windIn, windOf, failsafesIn}
 use Rattle.falcon_flight.specs.declared.milestone.Reached.{Reached}
+use Rattle.falcon_flight.specs.declared.tick.TickAnswer.{TickAnswer}
 use Rattle.falcon_flight.specs.declared.tick.Ticked.{Ticked}
 use Rattle.falcon_flight.specs.Milestone.{heightOf, highOf, nearHomeOf, nearGroundOf, arrivedOf, legOf, milestoneGives, milestoneBy, milestoneIn, milestoneOf}
 use Rattle.falcon_flight.specs.Setpoint.{landingOf, setpointOf, commandedOf, motorsOffOf}
@@ -119,7 +120,7 @@ module _ (f : FlightSupervisor) (t : Tick) where
   unfolding holdingOf
   held-parts = ap (λ (g : FlightSupervisor). withHold g (heldOf (g .hold) (g .fsm .mode) t)) (milestone-parts (withFailsafes sensed guarded) t)
 
-  pub assembled :
+  assembled :
       _≡_ {A = Ticked}
       (record {
         flight = withMotors flight (motorsOffOf (reached .mode));
@@ -132,3 +133,40 @@ module _ (f : FlightSupervisor) (t : Tick) where
       (ap (λ (g : FlightSupervisor). answeredOf (holdingOf (milestoneOf (windOf (runawayOf (breachedOf g t) t) t) t) t) t) sensed-parts
       ∙ (ap (λ (g : FlightSupervisor). answeredOf (holdingOf (milestoneOf g t) t) t) guarded-parts
       ∙ (ap (λ (g : FlightSupervisor). answeredOf g t) held-parts ∙ answered-by flight t _ refl)))
+
+-- the facts of the calls, put together
+pub joined :
+    (f : FlightSupervisor) (t : Tick)
+    {home : Float} {latched : Bool} {battery : Battery} {checked table : CheckTable} {guarded : FailsafeState} {reached : Reached} {hold : Hold}
+    {off : Bool} {answer : TickAnswer}
+    → home ≡ distanceOf (t .p) (f .config .home)
+    → latched ≡ clearedLatch (f .fsm .mode) (f .«rtl_latched»)
+    → battery ≡ updateOf (f .battery) (t .dt) (t .reading)
+    → checked ≡ updatePreflightIn (f .«check_table») (f .config) (f .battery) latched (lt (f .config .«fence_radius») home) t
+    → guarded
+    ≡ failsafesIn (record { mode = f .fsm .mode; counts = f .counts; «rtl_latched» = latched }) battery (lt (f .config .«fence_radius») home) t
+    → reached ≡ milestoneIn (guarded .mode) (f .config) (f .mission) home (t .p)
+    → hold ≡ heldOf (f .hold) (reached .mode) t
+    → table ≡ escTelemetryOf checked (t .«motor_rpm»)
+    → off ≡ motorsOffOf (reached .mode)
+    → answer ≡ answerIn (reached .mode) (f .config) (leg f t reached) (f .zones) (hold .«hold_xy») home (f .«motors_were_off») t
+    → _≡_ {A = Ticked}
+    (record {
+      flight =
+          record {
+            config = f .config;
+            fsm = record { mode = reached .mode };
+            battery = battery;
+            mission = leg f t reached;
+            zones = f .zones;
+            hold = hold;
+            counts = guarded .counts;
+            «check_table» = table;
+            «rtl_latched» = guarded .«rtl_latched»;
+            «motors_were_off» = off;
+          };
+      answer = answer;
+    })
+    (tickOf f t)
+joined f t home latched battery checked guarded reached hold table off answer =
+    simp (answer, off, table, hold, reached, guarded, checked, battery, latched, home) (assembled f t)

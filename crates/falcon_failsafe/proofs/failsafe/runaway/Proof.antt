@@ -1,5 +1,16 @@
+use Prim.Native.Nat.{ℕ}
+use mathlib.Core.Bool.{Bool, cond, _&&_}
+use mathlib.Core.Path.{_≡_}
+use lib.Dec.{leb}
+use Rattle.relay_math.specs.Small.{saturatingAddOf}
+use Rattle.relay_fsm.specs.declared.Mode.{Mode}
+use Rattle.relay_fsm.specs.declared.Event.the-variants.{Terminate}
+use Rattle.relay_fsm.specs.declared.Gates.{Gates}
+use Rattle.relay_fsm.specs.Mode.{isAirborneOf}
+use Rattle.relay_fsm.specs.Fsm.{onOf}
+use Rattle.falcon_failsafe.specs.declared.state.FailsafeState.{FailsafeState}
+use Rattle.falcon_failsafe.specs.Failsafe.{inFlight, tiltRunawayCycles, runawayEnough, runawayIn}
 use Rattle.falcon_failsafe.proofs.Events.{mode-if}
-use Rattle.falcon_failsafe.specs.Failsafe.{runawayIn, runawayEnough}
 use borrow.Author.Needs.{needs}
 use Rattle.falcon_failsafe.proofs.failsafe.runaway.Statement.{statement}
 use Rattle.falcon_failsafe.proofs.failsafe.runaway.Tie as tie
@@ -16,9 +27,32 @@ in-flight-requires c κs = search needs
 on-if-requires : tie.Need-on-if-requires
 on-if-requires c κs = search needs
 
-returns : tie.Need-returns
+-- the facts of the calls, put together
+joined :
+    (s : FailsafeState) (tilted : Bool) {air : Bool} {count : ℕ} {g : Gates} {mode : Mode} →
+    air ≡ isAirborneOf (s .mode) →
+    count ≡ cond (air && tilted) (saturatingAddOf (s .counts .«runaway_count») 1) 0 →
+    g ≡ inFlight →
+    mode ≡ cond (air && tilted && leb tiltRunawayCycles count) (onOf (s .mode) Terminate g) (s .mode) →
+    _≡_ {A = FailsafeState}
+    (record {
+      mode = mode;
+      counts = record { «runaway_count» = count; «wind_count» = s .counts .«wind_count» };
+      «rtl_latched» = s .«rtl_latched»;
+    })
+    (runawayIn s tilted)
 unfolding runawayIn runawayEnough
-returns c = simp (mode-if, c .on-if .ensures, c .before .in-flight .ensures, c .before .before .counted .ensures, c .before .before .before .is-airborne .ensures)
+joined s tilted air count g mode = simp (mode-if, mode, g, count, air)
+
+returns : tie.Need-returns
+returns c =
+    joined
+    (c .before .before .before .before .args .s)
+    (c .before .before .before .before .args .tilted)
+    (c .before .before .before .is-airborne .ensures)
+    (c .before .before .counted .ensures)
+    (c .before .in-flight .ensures)
+    (c .on-if .ensures)
 
 pub runaway-spec : {M : Type 1} → statement M
 runaway-spec =

@@ -1,4 +1,4 @@
-use Rattle.falcon_flight.proofs.Assembled.{assembled}
+use Rattle.falcon_flight.proofs.Assembled.{joined}
 use borrow.Author.Needs.{needs}
 use Rattle.falcon_flight.proofs.tick.tick.Statement.{statement}
 use Rattle.falcon_flight.proofs.tick.tick.Tie as tie
@@ -34,7 +34,20 @@ answered-requires : tie.Need-answered-requires
 answered-requires c κs = search needs
 
 returns : tie.Need-returns
-returns c = simp (c .answered .ensures, c .before .before .before .before .motors-off .ensures, c .before .before .before .before .before .esc-telemetry .ensures, c .before .before .before .before .before .before .before .before .held .ensures, c .before .before .before .before .before .before .before .before .before .before .milestone .ensures, c .before .before .before .before .before .before .before .before .before .before .before .before .failsafes .ensures, c .before .before .before .before .before .before .before .before .before .before .before .before .before .before .update-preflight .ensures, c .before .before .before .before .before .before .before .before .before .before .before .before .before .before .before .before .update .ensures, c .before .before .before .before .before .before .before .before .before .before .before .before .before .before .before .before .before .before .cleared .ensures, c .before .before .before .before .before .before .before .before .before .before .before .before .before .before .before .before .before .before .before .before .before .distance .ensures) (assembled (c .before .before .before .before .before .before .before .before .before .before .before .before .before .before .before .before .before .before .before .before .before .before .before .before .before .args .f) (c .before .before .before .before .before .before .before .before .before .before .before .before .before .before .before .before .before .before .before .before .before .before .before .before .before .args .t))
+returns c =
+    joined
+    (c .before .before .before .before .before .before .before .before .before .before .before .before .before .before .before .before .before .before .before .before .before .before .before .before .before .args .f)
+    (c .before .before .before .before .before .before .before .before .before .before .before .before .before .before .before .before .before .before .before .before .before .before .before .before .before .args .t)
+    (c .before .before .before .before .before .before .before .before .before .before .before .before .before .before .before .before .before .before .before .before .before .distance .ensures)
+    (c .before .before .before .before .before .before .before .before .before .before .before .before .before .before .before .before .before .before .cleared .ensures)
+    (c .before .before .before .before .before .before .before .before .before .before .before .before .before .before .before .before .update .ensures)
+    (c .before .before .before .before .before .before .before .before .before .before .before .before .before .before .update-preflight .ensures)
+    (c .before .before .before .before .before .before .before .before .before .before .before .before .failsafes .ensures)
+    (c .before .before .before .before .before .before .before .before .before .before .milestone .ensures)
+    (c .before .before .before .before .before .before .before .before .held .ensures)
+    (c .before .before .before .before .before .esc-telemetry .ensures)
+    (c .before .before .before .before .motors-off .ensures)
+    (c .answered .ensures)
 
 pub tick-spec : {M : Type 1} → statement M
 tick-spec =

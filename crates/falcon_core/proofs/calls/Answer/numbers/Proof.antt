@@ -1,4 +1,17 @@
-use Rattle.falcon_core.specs.Calls.{numbersOf}
+-- `numbers` is `numbersOf`, by what each call ensures and by the output's cases.
+use Prim.Native.Nat.{ℕ}
+use mathlib.Core.Bool.{Bool}
+use mathlib.Core.List.{[], _∷_}
+use mathlib.Core.Path.{_≡_}
+use lib.Ieee.{binary32, toBits}
+use Rattle.relay_fsm.specs.Mode.{modeNumber}
+use Rattle.relay_preflight.specs.Verdict.{blockerNumber}
+use Rattle.falcon_guidance.specs.declared.state.Point.{Point}
+use Rattle.falcon_flight.specs.declared.tick.TickAnswer.{TickAnswer}
+use Rattle.falcon_flight.specs.declared.tick.TickAnswer.the-variants.{MotorsOff, Setpoint}
+use Rattle.falcon_core.specs.declared.calls.Answer.{Answer}
+use Rattle.falcon_core.specs.declared.calls.Output.the-variants.{Nothing, Ticks}
+use Rattle.falcon_core.specs.Calls.{flag, numbersOf}
 use borrow.Author.Needs.{needs}
 use Rattle.falcon_core.proofs.calls.Answer.numbers.Statement.{statement}
 use Rattle.falcon_core.proofs.calls.Answer.numbers.Tie as tie
@@ -36,17 +49,38 @@ to-bits-requires-2 c κs = search needs
 to-bits-requires-3 : tie.Need-to-bits-requires-3
 to-bits-requires-3 c κs = search needs
 
+-- the facts of the calls put together, by the output's cases
+module _ (a : Answer) {m b : ℕ} (mode : m ≡ modeNumber (a .mode)) (verdict : b ≡ blockerNumber (a .verdict)) where
+  nothing : a .output ≡ Nothing → (a .refusal ∷ m ∷ 0 ∷ 0 ∷ 0 ∷ 0 ∷ 0 ∷ 0 ∷ a .outstanding ∷ b ∷ []) ≡ numbersOf a
+  unfolding numbersOf
+  nothing output = simp (output, mode, verdict)
+
+  motors-off :
+      (t : TickAnswer) → a .output ≡ Ticks t → t ≡ MotorsOff → (a .refusal ∷ m ∷ 0 ∷ 1 ∷ 0 ∷ 0 ∷ 0 ∷ 0 ∷ a .outstanding ∷ b ∷ []) ≡ numbersOf a
+  unfolding numbersOf
+  motors-off t output off = simp (output, off, mode, verdict)
+
+  setpoint :
+      (t : TickAnswer) (p : Point) (landing rearm : Bool) {l r x y z : ℕ}
+      → a .output ≡ Ticks t
+      → t ≡ Setpoint p landing rearm
+      → l ≡ flag landing
+      → r ≡ flag rearm
+      → x ≡ toBits binary32 (p .x)
+      → y ≡ toBits binary32 (p .y)
+      → z ≡ toBits binary32 (p .z)
+      → (a .refusal ∷ m ∷ l ∷ 0 ∷ r ∷ x ∷ y ∷ z ∷ a .outstanding ∷ b ∷ []) ≡ numbersOf a
+  unfolding numbersOf
+  setpoint t p landing rearm output at l r x y z = simp (output, at, l, r, x, y, z, mode, verdict)
+
 returns : tie.Need-returns
-unfolding numbersOf
-returns c = simp (c .enum-told .given .1, c .before .before .number2 .ensures, c .before .before .before .number .ensures)
+returns c = nothing (c .before .before .before .before .args .self) (c .before .before .before .number .ensures) (c .before .before .number2 .ensures) (c .enum-told .given .1)
 
 returns-2 : tie.Need-returns-2
-unfolding numbersOf
-returns-2 c = simp (c .before .before .before .output .given .1, c .enum-told2 .given .1, c .before .before .before .before .before .number2 .ensures, c .before .before .before .before .before .before .number .ensures)
+returns-2 c = motors-off (c .before .before .before .before .before .before .before .args .self) (c .before .before .before .before .before .before .number .ensures) (c .before .before .before .before .before .number2 .ensures) _ (c .before .before .before .output .given .1) (c .enum-told2 .given .1)
 
 returns-3 : tie.Need-returns-3
-unfolding numbersOf
-returns-3 c = simp (c .before .before .before .before .before .before .before .before .before .output .given .1, c .before .before .before .before .before .before .answer .given .1, c .to-bits3 .ensures, c .before .to-bits2 .ensures, c .before .before .to-bits .ensures, c .before .before .before .number4 .ensures, c .before .before .before .before .number3 .ensures, c .before .before .before .before .before .before .before .before .before .before .before .number2 .ensures, c .before .before .before .before .before .before .before .before .before .before .before .before .number .ensures)
+returns-3 c = setpoint (c .before .before .before .before .before .before .before .before .before .before .before .before .before .args .self) (c .before .before .before .before .before .before .before .before .before .before .before .before .number .ensures) (c .before .before .before .before .before .before .before .before .before .before .before .number2 .ensures) _ _ _ _ (c .before .before .before .before .before .before .before .before .before .output .given .1) (c .before .before .before .before .before .before .answer .given .1) (c .before .before .before .before .number3 .ensures) (c .before .before .before .number4 .ensures) (c .before .before .to-bits .ensures) (c .before .to-bits2 .ensures) (c .to-bits3 .ensures)
 
 pub numbers-spec : {M : Type 1} → statement M
 numbers-spec =

@@ -1,4 +1,6 @@
-use Rattle.falcon_core.specs.Calls.{stepOf, refusalOf, afterOf, outputOf}
+use mathlib.Core.Path.{refl, _∙_}
+use Rattle.falcon_core.specs.Calls.{commands}
+use Rattle.falcon_core.proofs.Answers.{unopened-refused, due-refused, command-accepted}
 use borrow.Author.Needs.{needs}
 use Rattle.falcon_core.proofs.state.Supervisor.command.Statement.{statement}
 use Rattle.falcon_core.proofs.state.Supervisor.command.Tie as tie
@@ -7,15 +9,13 @@ refused-requires : tie.Need-refused-requires
 refused-requires c κs = search needs
 
 returns : tie.Need-returns
-unfolding stepOf refusalOf afterOf outputOf
-returns c = simp (c .refused .ensures, c .before .if1 .taken)
+returns c = c .refused .ensures ∙ unopened-refused (c .before .before .before .args .self) (commands (c .before .before .before .args .ev) (c .before .before .before .args .level) (c .before .before .before .args .throttle-low)) refl refl refl (c .before .if1 .taken)
 
 refused-requires-2 : tie.Need-refused-requires-2
 refused-requires-2 c κs = search needs
 
 returns-2 : tie.Need-returns-2
-unfolding stepOf refusalOf afterOf outputOf
-returns-2 c = simp (c .refused2 .ensures, c .before .if2 .taken, c .before .before .if1 .left)
+returns-2 c = c .refused2 .ensures ∙ due-refused (c .before .before .before .before .args .self) (commands (c .before .before .before .before .args .ev) (c .before .before .before .before .args .level) (c .before .before .before .before .args .throttle-low)) refl refl refl refl (c .before .before .if1 .left) (c .before .if2 .taken)
 
 commanded-requires : tie.Need-commanded-requires
 commanded-requires c κs = search needs
@@ -24,8 +24,7 @@ accepted-requires : tie.Need-accepted-requires
 accepted-requires c κs = search needs
 
 returns-3 : tie.Need-returns-3
-unfolding stepOf refusalOf afterOf outputOf
-returns-3 c = simp (c .accepted .ensures, c .before .commanded .ensures, c .before .before .if2 .left, c .before .before .before .if1 .left)
+returns-3 c = c .accepted .ensures ∙ command-accepted (c .before .before .before .before .before .args .self) (c .before .before .before .before .before .args .ev) (c .before .before .before .before .before .args .level) (c .before .before .before .before .before .args .throttle-low) _ (c .before .commanded .ensures) (c .before .before .before .if1 .left) (c .before .before .if2 .left)
 
 pub command-spec : {M : Type 1} → statement M
 command-spec =

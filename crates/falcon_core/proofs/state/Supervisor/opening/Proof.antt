@@ -1,4 +1,6 @@
-use Rattle.falcon_core.specs.Calls.{stepOf, refusalOf, afterOf, outputOf}
+use mathlib.Core.Path.{refl, _∙_}
+use Rattle.falcon_core.specs.Calls.{opens}
+use Rattle.falcon_core.proofs.Answers.{masks-refused, opening-accepted}
 use borrow.Author.Needs.{needs}
 use Rattle.falcon_core.proofs.state.Supervisor.opening.Statement.{statement}
 use Rattle.falcon_core.proofs.state.Supervisor.opening.Tie as tie
@@ -7,8 +9,7 @@ refused-requires : tie.Need-refused-requires
 refused-requires c = search needs
 
 returns : tie.Need-returns
-unfolding stepOf refusalOf afterOf outputOf
-returns c = simp (c .refused .ensures, c .before .if1 .taken)
+returns c = c .refused .ensures ∙ masks-refused (c .before .before .before .before .args .self) (opens (c .before .before .before .before .args .o)) refl (c .before .if1 .taken)
 
 opened-requires : tie.Need-opened-requires
 opened-requires c = search needs
@@ -17,8 +18,7 @@ accepted-requires : tie.Need-accepted-requires
 accepted-requires c = search needs
 
 returns-2 : tie.Need-returns-2
-unfolding stepOf refusalOf afterOf outputOf
-returns-2 c = simp (c .accepted .ensures, c .before .opened .ensures, c .before .before .if1 .left)
+returns-2 c = c .accepted .ensures ∙ opening-accepted (c .before .before .before .before .before .args .self) (c .before .before .before .before .before .args .o) _ (c .before .opened .ensures) (c .before .before .if1 .left)
 
 pub opening-spec : {M : Type 1} → statement M
 opening-spec =

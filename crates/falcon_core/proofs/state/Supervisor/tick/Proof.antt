@@ -1,6 +1,6 @@
-use mathlib.Core.Path.{_∙_}
-use Rattle.falcon_core.proofs.Answers.{tick-accepted}
-use Rattle.falcon_core.specs.Calls.{stepOf, refusalOf, afterOf, outputOf}
+use mathlib.Core.Path.{refl, _∙_}
+use Rattle.falcon_core.proofs.Answers.{unopened-refused, due-refused, tick-accepted}
+use Rattle.falcon_core.specs.Calls.{ticks}
 use borrow.Author.Needs.{needs}
 use Rattle.falcon_core.proofs.state.Supervisor.tick.Statement.{statement}
 use Rattle.falcon_core.proofs.state.Supervisor.tick.Tie as tie
@@ -9,15 +9,13 @@ refused-requires : tie.Need-refused-requires
 refused-requires c κs = search needs
 
 returns : tie.Need-returns
-unfolding stepOf refusalOf afterOf outputOf
-returns c = simp (c .refused .ensures, c .before .if1 .taken)
+returns c = c .refused .ensures ∙ unopened-refused (c .before .before .before .args .self) (ticks (c .before .before .before .args .t)) refl refl refl (c .before .if1 .taken)
 
 refused-requires-2 : tie.Need-refused-requires-2
 refused-requires-2 c κs = search needs
 
 returns-2 : tie.Need-returns-2
-unfolding stepOf refusalOf afterOf outputOf
-returns-2 c = simp (c .refused2 .ensures, c .before .if2 .taken, c .before .before .if1 .left)
+returns-2 c = c .refused2 .ensures ∙ due-refused (c .before .before .before .before .args .self) (ticks (c .before .before .before .before .args .t)) refl refl refl refl (c .before .before .if1 .left) (c .before .if2 .taken)
 
 tick-requires : tie.Need-tick-requires
 tick-requires c κs = search needs
@@ -31,7 +29,7 @@ accepted-requires c κs = search needs
 returns-3 : tie.Need-returns-3
 returns-3 c =
     c .accepted .ensures
-    ∙ tick-accepted _ _ _ _ (c .before .before .before .tick .ensures) (c .before .due-after .ensures) (c .before .before .before .before .before .if1 .left) (c .before .before .before .before .if2 .left)
+    ∙ tick-accepted (c .before .before .before .before .before .before .before .args .self) (c .before .before .before .before .before .before .before .args .t) _ _ (c .before .before .before .tick .ensures) (c .before .due-after .ensures) (c .before .before .before .before .before .if1 .left) (c .before .before .before .before .if2 .left)
 
 pub tick-spec : {M : Type 1} → statement M
 tick-spec =
