@@ -22,10 +22,10 @@ unfolding allAdmissibleOf
 loop-holds c = (search needs, refl)
 
 point-at-requires : tie.Need-point-at-requires Inv-loop μ-loop
-point-at-requires c κs = search needs
+point-at-requires c κs = omega arith
 
 waypoint-admissible-requires : tie.Need-waypoint-admissible-requires Inv-loop μ-loop
-waypoint-admissible-requires c κs = search needs
+waypoint-admissible-requires c κs = tt
 
 returns : tie.Need-returns Inv-loop μ-loop
 returns c =
@@ -34,10 +34,10 @@ returns c =
     (simp (c .before .before .point-at .ensures) at (sym (c .before .waypoint-admissible .ensures) ∙ not-true (c .before .waypoint-admissible .result) (c .if1 .taken))))
 
 add-i : tie.Need-add-i Inv-loop μ-loop
-add-i c = search needs
+add-i c = omega arith
 
 loop-less : tie.Need-loop-less Inv-loop μ-loop
-loop-less c = search needs
+loop-less c = omega arith
 
 loop-again : tie.Need-loop-again Inv-loop μ-loop
 unfolding allAdmissibleOf

@@ -15,26 +15,26 @@ abbrev μ-loop : tie.MeasureT-loop
 μ-loop lent n points₀ i₀ points i = n - i
 
 origin-requires : tie.Need-origin-requires Inv-loop μ-loop
-origin-requires c κs = search needs
+origin-requires c κs = tt
 
 loop-holds : tie.Need-loop-holds Inv-loop μ-loop
 unfolding storedOf
 loop-holds c = (search needs, simp (c .origin .ensures))
 
 point-at-requires : tie.Need-point-at-requires Inv-loop μ-loop
-point-at-requires c κs = search needs
+point-at-requires c κs = omega arith
 
 mul-points : tie.Need-mul-points Inv-loop μ-loop
-mul-points c = search needs
+mul-points c = omega arith
 
 array-set-from-points : tie.Need-array-set-from-points Inv-loop μ-loop
-array-set-from-points c = search needs
+array-set-from-points c = omega arith
 
 add-i : tie.Need-add-i Inv-loop μ-loop
-add-i c = search needs
+add-i c = omega arith
 
 loop-less : tie.Need-loop-less Inv-loop μ-loop
-loop-less c = search needs
+loop-less c = omega arith
 
 loop-again : tie.Need-loop-again Inv-loop μ-loop
 unfolding storedOf

@@ -15,26 +15,26 @@ abbrev μ-loop : tie.MeasureT-loop
 μ-loop lent n zones₀ i₀ zones i = n - i
 
 none-requires : tie.Need-none-requires Inv-loop μ-loop
-none-requires c κs = search needs
+none-requires c κs = tt
 
 loop-holds : tie.Need-loop-holds Inv-loop μ-loop
 unfolding storedZonesOf
 loop-holds c = (search needs, simp (c .none .ensures))
 
 zone-at-requires : tie.Need-zone-at-requires Inv-loop μ-loop
-zone-at-requires c κs = search needs
+zone-at-requires c κs = omega arith
 
 mul-zones : tie.Need-mul-zones Inv-loop μ-loop
-mul-zones c = search needs
+mul-zones c = omega arith
 
 array-set-from-zones : tie.Need-array-set-from-zones Inv-loop μ-loop
-array-set-from-zones c = search needs
+array-set-from-zones c = omega arith
 
 add-i : tie.Need-add-i Inv-loop μ-loop
-add-i c = search needs
+add-i c = omega arith
 
 loop-less : tie.Need-loop-less Inv-loop μ-loop
-loop-less c = search needs
+loop-less c = omega arith
 
 loop-again : tie.Need-loop-again Inv-loop μ-loop
 unfolding storedZonesOf
