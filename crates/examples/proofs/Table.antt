@@ -12,7 +12,7 @@ use Rattle.relay_preflight.specs.Table.{bitOf, failsOf}
 use Rattle.relay_preflight.specs.Verdict.{firstIn, firstBlockerOf}
 use Rattle.falcon_guidance.specs.Geometry.{lengthOf, distanceOf}
 use Rattle.falcon_guidance.specs.Mission.{waypointAdmissibleOf}
-use Rattle.rows.specs.Examples.{rows, agree}
+use Rattle.examples.specs.Examples.{rows, agree}
 
 twelve : agree rows ≡ true
 unfolding rows agree ofBits toBits units add sub mul lt le rootOf rootBy wholeRoot radicand dropped rounded ranged clampOf sanitizeOf knots walk tableOf ocvSocCellOf rowOf onOf graverOf bumpOf policyActionOf allChecks bitOf failsOf firstIn firstBlockerOf lengthOf distanceOf waypointAdmissibleOf
