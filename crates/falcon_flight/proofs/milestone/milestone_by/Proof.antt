@@ -1,7 +1,7 @@
 -- `milestone_by` is `milestoneBy`, by the mode and by what each call ensures.
 use Prim.Native.Nat.{ℕ, _+_}
 use mathlib.Core.Bool.{Bool, true, false, cond, not}
-use mathlib.Core.Path.{_≡_, refl, sym, _∙_}
+use mathlib.Core.Path.{_≡_, sym, _∙_}
 use lib.Dec.{ltb}
 use Rattle.relay_fsm.specs.declared.Mode.{Mode}
 use Rattle.relay_fsm.specs.declared.Mode.the-variants.{Disarmed, Armed, Takeoff, Loiter, Mission, Rtl, Terminated}
