@@ -1,37 +1,114 @@
 -- The state, the refusal and the buffer by the buffer's length. Assumes nothing.
-use Prim.Native.Nat.{ℕ, _≤_, _<_}
-use mathlib.Core.Path.{_≡_, sym}
-use mathlib.Core.List.{List, _++_}
+use Prim.Native.Nat.{ℕ, _*_, _≤_, _<_}
+use native.Mathlib.Omega.{arith}
+use mathlib.Core.Path.{_≡_, refl, sym, ap, _∙_}
+use mathlib.Core.List.{List, [], _++_, append-nil}
 use borrow.Author.Tests.{lt-ltb, le-ltb}
 use lib.ListN.{length, drop}
 use Rattle.falcon_core.specs.declared.state.Supervisor.{Supervisor}
+use Rattle.falcon_core.specs.declared.calls.Answered.{Answered}
+use Rattle.falcon_core.specs.declared.calls.Output.{Output}
+use Rattle.falcon_core.specs.declared.calls.Output.the-variants.{Nothing, Ticks}
 use Rattle.falcon_core.specs.Calls.{refusedOf, numbersOf}
+use Rattle.columns.specs.declared.field.FieldRead.{FieldRead}
+use Rattle.columns.specs.declared.field.FieldRead.the-variants.{Number, Bad}
+use Rattle.columns.specs.Field.{fieldWidth, inRange, kindOf}
 use Rattle.columns.specs.Line.{lineOf, writtenOver}
-use Rattle.requests.specs.Kinds.{answeredBy}
+use Rattle.columns.proofs.Writing.{length-line}
+use Rattle.requests.specs.Kinds.{Asked, answeredBy}
 use Rattle.requests.specs.Line.{askedLine}
 use Rattle.call_lists.proofs.Answer.{numbers-count}
-use Rattle.call_lists.specs.Entry.{answerWidth, shortBuffer, askedWith, lineStep, replyOf, bufferAfter}
+use Rattle.call_lists.specs.Entry.{answerFields, answerWidth, needFields, mostNeeded, needOf, shortBuffer, askedWith, lineStep, extraOf, replyNumbers, replyOf, bufferAfter}
 
--- under 110 bytes of buffer
-module _ (s : Supervisor) (line out : List ℕ) (h : length out < answerWidth) where
+-- ---- what a line needs
+
+need-ordinary : (k : FieldRead) → needFields k ≡ answerFields
+unfolding needFields
+need-ordinary (Number n) = refl
+need-ordinary Bad = refl
+
+pub need-is : (v : ℕ) → answerFields ≡ needFields (inRange v)
+need-is v = sym (need-ordinary (inRange v))
+
+need-least : (k : FieldRead) → answerFields ≤ needFields k
+need-least k = omega (arith, need-ordinary k)
+
+pub need-most : (k : FieldRead) → needFields k ≤ mostNeeded
+need-most k = omega (arith, need-ordinary k)
+
+-- every line needs room for ten fields
+pub needs-least : (line : List ℕ) → answerWidth ≤ needOf line
+unfolding needOf
+needs-least line = omega (arith, need-least (kindOf line))
+
+-- and none more than the most
+pub needs-most : (line : List ℕ) → needOf line ≤ fieldWidth * mostNeeded
+unfolding needOf
+needs-most line = omega (arith, need-most (kindOf line))
+
+-- by its kind
+pub needs-kinded : (line : List ℕ) (n v : ℕ) → n ≡ needFields (inRange v) → inRange v ≡ kindOf line → fieldWidth * n ≡ needOf line
+unfolding needOf
+needs-kinded line n v e k = ap (λ (m : ℕ). fieldWidth * m) (e ∙ ap needFields k)
+
+-- ---- what an answer takes
+
+extra-none : (s : Supervisor) (o : Output) → extraOf s o ≡ []
+unfolding extraOf
+extra-none s Nothing = refl
+extra-none s (Ticks t) = refl
+
+pub reply-ten : (a : Answered) → numbersOf (a .answer) ≡ replyNumbers a
+unfolding replyNumbers
+reply-ten a =
+    sym (ap (λ (l : List ℕ). numbersOf (a .answer) ++ l) (extra-none (a .supervisor) (a .answer .output)) ∙ append-nil (numbersOf (a .answer)))
+
+pub reply-width : (a : Answered) → length (replyOf a) ≡ answerWidth
+unfolding replyOf
+reply-width a =
+    length-line (replyNumbers a)
+    ∙ ap (λ (l : List ℕ). fieldWidth * length l) (sym (reply-ten a))
+    ∙ ap (λ (n : ℕ). fieldWidth * n) (numbers-count (a .answer))
+
+-- a reply is no longer than what its line needs
+pub reply-fits : (s : Supervisor) (line : List ℕ) → length (replyOf (answeredBy s (askedLine line))) ≤ needOf line
+reply-fits s line = omega (arith, reply-width (answeredBy s (askedLine line)), needs-least line)
+
+-- ---- by the buffer's length
+
+-- under what the line needs
+module _ (s : Supervisor) (line out : List ℕ) (h : length out < needOf line) where
   pub short-step : lineStep s line out ≡ refusedOf s shortBuffer
   unfolding lineStep askedWith
-  short-step = simp (lt-ltb (length out) answerWidth h)
+  short-step = simp (lt-ltb (length out) (needOf line) h)
 
   pub short-buffer : out ≡ bufferAfter s line out
   unfolding bufferAfter
-  short-buffer = simp (lt-ltb (length out) answerWidth h)
+  short-buffer = simp (lt-ltb (length out) (needOf line) h)
 
--- with 110 bytes of buffer
-module _ (s : Supervisor) (line out : List ℕ) (h : answerWidth ≤ length out) where
+-- with what the line needs
+module _ (s : Supervisor) (line out : List ℕ) (h : needOf line ≤ length out) where
   pub full-step : answeredBy s (askedLine line) ≡ lineStep s line out
   unfolding lineStep askedWith
-  full-step = simp (le-ltb (length out) answerWidth h)
+  full-step = simp (le-ltb (length out) (needOf line) h)
 
-  pub full-buffer : lineOf (numbersOf (answeredBy s (askedLine line) .answer)) ++ drop answerWidth out ≡ bufferAfter s line out
-  unfolding bufferAfter replyOf
-  full-buffer = simp (le-ltb (length out) answerWidth h, sym full-step)
+  pub full-buffer : replyOf (answeredBy s (askedLine line)) ++ drop (length (replyOf (answeredBy s (askedLine line)))) out ≡ bufferAfter s line out
+  unfolding bufferAfter
+  full-buffer =
+      ap (λ (x : Answered). replyOf x ++ drop (length (replyOf x)) out) full-step
+      ∙ simp (le-ltb (length out) (needOf line) h)
 
-  pub full-written : writtenOver (numbersOf (answeredBy s (askedLine line) .answer)) out ≡ bufferAfter s line out
-  unfolding bufferAfter replyOf writtenOver
-  full-written = simp (numbers-count, le-ltb (length out) answerWidth h, sym full-step)
+  -- the answer written is the reply, and what stands behind it stays
+  pub full-reply : (a : Answered) → a ≡ answeredBy s (askedLine line)
+      → writtenOver (numbersOf (a .answer)) out ≡ replyOf (answeredBy s (askedLine line)) ++ drop (length (replyOf (answeredBy s (askedLine line)))) out
+  unfolding writtenOver replyOf
+  full-reply a e =
+      let wide : length (lineOf (replyNumbers a)) ≡ fieldWidth * length (replyNumbers a) = length-line (replyNumbers a) in
+      let room : fieldWidth * length (replyNumbers a) ≤ length out =
+      omega (arith, reply-fits s line, ap (λ (x : Answered). length (replyOf x)) e) in
+      let over : writtenOver (replyNumbers a) out ≡ lineOf (replyNumbers a) ++ drop (fieldWidth * length (replyNumbers a)) out =
+      simp (le-ltb (length out) (fieldWidth * length (replyNumbers a)) room) in
+      ap (λ (ns : List ℕ). writtenOver ns out) (reply-ten a)
+      ∙ over
+      ∙ ap (λ (n : ℕ). lineOf (replyNumbers a) ++ drop n out) (sym wide)
+      ∙ ap (λ (x : Answered). replyOf x ++ drop (length (replyOf x)) out) e

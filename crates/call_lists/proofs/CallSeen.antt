@@ -6,7 +6,7 @@ use mathlib.Core.Path.{_≡_, refl}
 use lib.Dec.{eqb·suc-zero}
 use Rattle.falcon_core.specs.declared.state.Supervisor.{Supervisor}
 use Rattle.falcon_core.specs.declared.calls.Answered.{Answered}
-use Rattle.falcon_core.specs.Calls.{Request, refusalOf, afterOf, outputOf, answerOf, refusedOf, acceptedOf, stepOf}
+use Rattle.falcon_core.specs.Calls.{Request, refusalOf, legsIn, afterOf, outputOf, answerOf, refusedOf, acceptedOf, stepOf}
 use Rattle.falcon_core.proofs.Answers.{step-refused, step-accepted}
 use Rattle.requests.specs.Kinds.{Asked, refuses, asks, answeredBy}
 use Rattle.call_lists.specs.Lists.{Call, askedOf, callStep, accepted, requested, taken}
@@ -14,7 +14,7 @@ use Rattle.call_lists.specs.Lists.{Call, askedOf, callStep, accepted, re
 -- the answer to a call, and what it took
 pub data Seen (s : Supervisor) : Answered → Option Request → Type 0 where
   refused : (n : ℕ) → Seen s (refusedOf s n) none
-  took : (r : Request) → refusalOf s r ≡ 0 → Seen s (acceptedOf (afterOf s r) (outputOf s r)) (some r)
+  took : (r : Request) → refusalOf s r ≡ 0 → Seen s (acceptedOf (afterOf s r) (outputOf (s .flight) (legsIn s) r)) (some r)
 
 -- the same of what is asked
 takenBy : Answered → Asked → Option Request

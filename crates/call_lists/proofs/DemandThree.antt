@@ -7,7 +7,7 @@ use mathlib.Core.List.{List, [], _∷_}
 use mathlib.Core.Logic.{_⊎_, inl, inr, ⊎-elim, _↔_, _≢_}
 use mathlib.Core.Option.{Option, none, some}
 use mathlib.Core.Path.{_≡_, refl, sym, _∙_, subst}
-use lib.Dec.{T, leb, leb→le}
+use lib.Dec.{T, leb, leb→le, le→leb}
 use lib.Ieee.Fits.{and-l, and-r}
 use Rattle.relay_fsm.specs.declared.Mode.{Mode}
 use Rattle.relay_fsm.specs.declared.Mode.the-variants.{Disarmed, Terminated}
@@ -23,11 +23,12 @@ use Rattle.falcon_failsafe.specs.Failsafe.{tiltedOf, runawayEnough}
 use Rattle.falcon_flight.specs.Milestone.{nearGroundOf}
 use Rattle.falcon_flight.specs.Tick.{tickOf}
 use Rattle.falcon_core.specs.Land.{landedOf, throughLandOf}
-use Rattle.falcon_core.specs.Calls.{Request, opens, ticks, reports, commands, points, zones, afterOf, outputOf}
+use Rattle.falcon_core.specs.Calls.{Request, opens, ticks, reports, commands, plans, legsIn, flightAfter, afterOf, outputOf}
+use Rattle.falcon_core.proofs.Parts.{planned-mode}
 use Rattle.falcon_core.proofs.Rank.{tick-rank, report-rank}
 use Rattle.falcon_core.proofs.Phase.{phaseOf, airborne-phase, tick-phase, report-keeps-phase}
 use Rattle.falcon_core.proofs.Runaway.{tick-ends}
-use Rattle.call_lists.specs.Lists.{Call, Began, Place, taken, nextMode, ticked, nextBattery, nextBegan, nextPlace, placeFrom, placeAt, start, latchOf, calm, calmFrom, tickCount, ticksFrom}
+use Rattle.call_lists.specs.Lists.{Call, Began, Place, taken, nextMode, ticked, nextBattery, nextBegan, nextCarried, nextPlace, placeFrom, placeAt, start, latchOf, calm, calmFrom, tickCount, ticksFrom}
 use Rattle.call_lists.specs.Demand3.{landingTicks, tumblingTicks, underGround, tumbling, tumblingFor, TwoTicks, RankKept, FiftyTicks, Demand3}
 use Rattle.call_lists.proofs.CallSeen.{Seen, refused, took, seen}
 use Rattle.call_lists.proofs.PlaceHolds.{run, Inv, Holding, refused-mode, accepted-mode, one-more, run-now, enough-is, tick-terminates, no-air, next-holding, place-holding, start-holding}
@@ -45,22 +46,21 @@ record Touched (s : Supervisor) (n : Mode) (k : Option Request) : Type 0 where
   is-tick : k ≡ some (ticks tick)
   low : T (underGround tick)
   disarmed : n ≡ Disarmed
-  through-land : T (throughLandOf (s .flight) tick)
+  through-land : T (throughLandOf (s .flight) (legsIn s) tick)
 
 rank-took :
     (s : Supervisor) (r : Request)
     → T (calm (some r))
     → (rankOf (s .flight .fsm .mode) ≤ rankOf (afterOf s r .flight .fsm .mode)) ⊎ Touched s (afterOf s r .flight .fsm .mode) (some r)
-unfolding afterOf
+unfolding afterOf flightAfter
 rank-took s (opens o) h = absurd h
 rank-took s (ticks t) h =
     ⊎-elim inl
     (λ u. inr (record { tick = t; is-tick = refl; low = subst T (ground-is t) (u .0); disarmed = u .1; through-land = u .2 }))
-    (tick-rank (s .flight) t)
+    (tick-rank (s .flight) (legsIn s) t)
 rank-took s (reports failed) h = inl (report-rank (s .flight) failed)
 rank-took s (commands ev level low) h = absurd h
-rank-took s (points l) h = inl (le-refl (rankOf (s .flight .fsm .mode)))
-rank-took s (zones l) h = inl (le-refl (rankOf (s .flight .fsm .mode)))
+rank-took s (plans p) h = inl (rw (planned-mode (s .flight) p) (le-refl (rankOf (s .flight .fsm .mode))))
 
 rank-seen :
     (s : Supervisor) (m : Mode) (a : Answered) (k : Option Request)
@@ -69,7 +69,7 @@ rank-seen :
     → T (calm k)
     → (rankOf m ≤ rankOf (nextMode m a)) ⊎ Touched s (nextMode m a) k
 rank-seen s m _ _ (refused n) e h = inl (rw (refused-mode s m n e) (le-refl (rankOf m)))
-rank-seen s m _ _ (took r q) e h = rw (accepted-mode (afterOf s r) m (outputOf s r), e) (rank-took s r h)
+rank-seen s m _ _ (took r q) e h = rw (accepted-mode (afterOf s r) m (outputOf (s .flight) (legsIn s) r), e) (rank-took s r h)
 
 pub rank-rule : (p : Place) (c : Call) → Holding p → RankKept p c
 unfolding nextPlace
@@ -89,17 +89,17 @@ run-step true y n r f h = let k = f h in omega (arith, k)
 run-step false y n r f h = absurd h
 
 -- so many ticks in a row began airborne and tilted
-run→tumbling : (n : ℕ) (l : List Began) → n ≤ run l → T (tumblingFor n l)
+run→tumbling : (j n : ℕ) (l : List Began) → n ≤ run j l → T (tumblingFor j n l)
 unfolding run tumblingFor
-run→tumbling zero l h = tt
-run→tumbling (suc n) [] h = absurd (omega arith)
-run→tumbling (suc n) (b ∷ l) h = tumbling-step (tumbling b) (tumblingFor n l) n (run l) (λ k. run→tumbling n l k) h
+run→tumbling j zero l h = tt
+run→tumbling j (suc n) [] h = le→leb (suc n) j h
+run→tumbling j (suc n) (b ∷ l) h = tumbling-step (tumbling b) (tumblingFor j n l) n (run j l) (λ k. run→tumbling j n l k) h
 
-tumbling→run : (n : ℕ) (l : List Began) → T (tumblingFor n l) → n ≤ run l
+tumbling→run : (j n : ℕ) (l : List Began) → T (tumblingFor j n l) → n ≤ run j l
 unfolding run tumblingFor
-tumbling→run zero l h = omega arith
-tumbling→run (suc n) [] h = absurd h
-tumbling→run (suc n) (b ∷ l) h = run-step (tumbling b) (tumblingFor n l) n (run l) (λ k. tumbling→run n l k) h
+tumbling→run j zero l h = omega arith
+tumbling→run j (suc n) [] h = leb→le (suc n) j h
+tumbling→run j (suc n) (b ∷ l) h = run-step (tumbling b) (tumblingFor j n l) n (run j l) (λ k. tumbling→run j n l k) h
 
 or-false : (a b : Bool) → a ≡ false → (a || b) ≡ b
 or-false a b e = rw e
@@ -111,7 +111,7 @@ not-mode m h = go (isMode m Terminated) refl
     go true e = absurd (h (isMode→eq m Terminated (subst T (sym e) tt)))
     go false e = e
 
-module _ (s : Supervisor) (m : Mode) (b : Option Battery) (l : List Began) (t : Tick) (i : Inv s m b l) where
+module _ (s : Supervisor) (m : Mode) (b : Option Battery) (l : List Began) (j : ℕ) (t : Tick) (i : Inv s m b l j) where
   abbrev now : Began
   now = record { mode = m; tick = t }
 
@@ -119,48 +119,48 @@ module _ (s : Supervisor) (m : Mode) (b : Option Battery) (l : List Began) (t : 
   air = isAirborneOf (s .flight .fsm .mode) && tiltedOf t
 
   -- a tick that enters Terminated
-  enters : (m ≡ Terminated → ⊥) → tickOf (s .flight) t .flight .fsm .mode ≡ Terminated → T (air && runawayEnough (suc (run l)))
+  enters : (m ≡ Terminated → ⊥) → tickOf (s .flight) (legsIn s) t .flight .fsm .mode ≡ Terminated → T (air && runawayEnough (suc (run j l)))
   enters h e =
       let f : isMode (s .flight .fsm .mode) Terminated ≡ false = not-mode (s .flight .fsm .mode) (λ q. h (i .mode-is ∙ q)) in
-      let a : Mode = tickOf (s .flight) t .flight .fsm .mode in
-      let q = tick-ends (s .flight) t ∙ or-false (isMode (s .flight .fsm .mode) Terminated) _ f in
-      rw (one-more s m b l t i) at (subst T q (eq→isMode a Terminated e))
+      let a : Mode = tickOf (s .flight) (legsIn s) t .flight .fsm .mode in
+      let q = tick-ends (s .flight) (legsIn s) t ∙ or-false (isMode (s .flight .fsm .mode) Terminated) _ f in
+      rw (one-more s m b l j t i) at (subst T q (eq→isMode a Terminated e))
 
-  forward : (m ≡ Terminated → ⊥) → tickOf (s .flight) t .flight .fsm .mode ≡ Terminated → T (tumblingFor tumblingTicks (now ∷ l))
+  forward : (m ≡ Terminated → ⊥) → tickOf (s .flight) (legsIn s) t .flight .fsm .mode ≡ Terminated → T (tumblingFor j tumblingTicks (now ∷ l))
   forward h e =
-      let u : T (air && leb tumblingTicks (suc (run l))) = rw (enough-is (suc (run l))) at (enters h e) in
-      let a : air ≡ true = is-true air (and-l air (leb tumblingTicks (suc (run l))) u) in
-      let k = leb→le tumblingTicks (suc (run l)) (and-r air (leb tumblingTicks (suc (run l))) u) in
-      let r : run (now ∷ l) ≡ suc (run l) = run-now s m b l t i ∙ rw a in
-      run→tumbling tumblingTicks (now ∷ l) (omega (arith, r, k))
+      let u : T (air && leb tumblingTicks (suc (run j l))) = rw (enough-is (suc (run j l))) at (enters h e) in
+      let a : air ≡ true = is-true air (and-l air (leb tumblingTicks (suc (run j l))) u) in
+      let k = leb→le tumblingTicks (suc (run j l)) (and-r air (leb tumblingTicks (suc (run j l))) u) in
+      let r : run j (now ∷ l) ≡ suc (run j l) = run-now s m b l j t i ∙ rw a in
+      run→tumbling j tumblingTicks (now ∷ l) (omega (arith, r, k))
 
-  back : T (tumblingFor tumblingTicks (now ∷ l)) → (m ≡ Terminated → ⊥) × (tickOf (s .flight) t .flight .fsm .mode ≡ Terminated)
+  back : T (tumblingFor j tumblingTicks (now ∷ l)) → (m ≡ Terminated → ⊥) × (tickOf (s .flight) (legsIn s) t .flight .fsm .mode ≡ Terminated)
   back h = go air refl
     where
-      k : tumblingTicks ≤ run (now ∷ l)
-      k = tumbling→run tumblingTicks (now ∷ l) h
+      k : tumblingTicks ≤ run j (now ∷ l)
+      k = tumbling→run j tumblingTicks (now ∷ l) h
 
-      go : (x : Bool) → air ≡ x → (m ≡ Terminated → ⊥) × (tickOf (s .flight) t .flight .fsm .mode ≡ Terminated)
+      go : (x : Bool) → air ≡ x → (m ≡ Terminated → ⊥) × (tickOf (s .flight) (legsIn s) t .flight .fsm .mode ≡ Terminated)
       go true e =
-          let r : run (now ∷ l) ≡ suc (run l) = run-now s m b l t i ∙ rw e in
-          ((λ q. no-air (s .flight .fsm .mode) (tiltedOf t) (sym (i .mode-is) ∙ q) e), tick-terminates s m b l t i e (omega (arith, r, k)))
-      go false e = let r : run (now ∷ l) ≡ 0 = run-now s m b l t i ∙ rw e in absurd (omega (arith, r, k))
+          let r : run j (now ∷ l) ≡ suc (run j l) = run-now s m b l j t i ∙ rw e in
+          ((λ q. no-air (s .flight .fsm .mode) (tiltedOf t) (sym (i .mode-is) ∙ q) e), tick-terminates s m b l j t i e (omega (arith, r, k)))
+      go false e = let r : run j (now ∷ l) ≡ 0 = run-now s m b l j t i ∙ rw e in absurd (omega (arith, r, k))
 
 fifty-seen :
-    (s : Supervisor) (m : Mode) (b : Option Battery) (l : List Began) (a : Answered) (k : Option Request) (t : Tick)
+    (s : Supervisor) (m : Mode) (b : Option Battery) (l : List Began) (j : ℕ) (a : Answered) (k : Option Request) (t : Tick)
     → Seen s a k
-    → Inv s m b l
+    → Inv s m b l j
     → k ≡ some (ticks t)
-    → ((m ≢ Terminated) × (nextMode m a ≡ Terminated)) ↔ T (tumblingFor tumblingTicks (nextBegan m l k))
-unfolding afterOf
-fifty-seen s m b l _ _ t (refused n) i e = absurd (let z : _≡_ {A = ℕ} 0 1 = cc in omega arith)
-fifty-seen s m b l _ _ t (took r q) i e =
+    → ((m ≢ Terminated) × (nextMode m a ≡ Terminated)) ↔ T (tumblingFor (nextCarried j k) tumblingTicks (nextBegan m l k))
+unfolding afterOf flightAfter
+fifty-seen s m b l j _ _ t (refused n) i e = absurd (let z : _≡_ {A = ℕ} 0 1 = cc in omega arith)
+fifty-seen s m b l j _ _ t (took r q) i e =
     let x : r ≡ ticks t = cc in
-    rw (accepted-mode (afterOf s r) m (outputOf s r), x) ((λ u. forward s m b l t i (u .0) (u .1)), back s m b l t i)
+    rw (accepted-mode (afterOf s r) m (outputOf (s .flight) (legsIn s) r), x) ((λ u. forward s m b l j t i (u .0) (u .1)), back s m b l j t i)
 
 pub fifty-rule : (p : Place) (c : Call) → Holding p → FiftyTicks p c
 unfolding nextPlace
-fifty-rule p c i t e = fifty-seen (p .supervisor) (p .mode) (p .battery) (p .began) _ _ t (seen (p .supervisor) c) i e
+fifty-rule p c i t e = fifty-seen (p .supervisor) (p .mode) (p .battery) (p .began) (p .carried) _ _ t (seen (p .supervisor) c) i e
 
 -- ---- the two-tick rule
 
@@ -189,40 +189,39 @@ one-add : (k : ℕ) → suc k ≡ 1 + k
 one-add k = omega arith
 
 on-took :
-    (s : Supervisor) (m : Mode) (b : Option Battery) (l : List Began) (k : ℕ) (r : Request)
-    → Inv s m b l
+    (s : Supervisor) (m : Mode) (b : Option Battery) (l : List Began) (j : ℕ) (k : ℕ) (r : Request)
+    → Inv s m b l j
     → T (calm (some r))
     → T (phaseOf k (s .flight .fsm .mode))
     → T (latchOf b)
     → On (tickCount (some r) + k) (afterOf s r .flight .fsm .mode) (nextBattery b (some r))
-unfolding afterOf
-on-took s m b l k (opens o) i h p q = absurd h
-on-took s m b l k (ticks t) i h p q =
+unfolding afterOf flightAfter
+on-took s m b l j k (opens o) i h p q = absurd h
+on-took s m b l j k (ticks t) i h p q =
     record {
       phase =
-          subst (λ (n : ℕ). T (phaseOf n (tickOf (s .flight) t .flight .fsm .mode))) (one-add k)
-          (tick-phase k (s .flight) t
+          subst (λ (n : ℕ). T (phaseOf n (tickOf (s .flight) (legsIn s) t .flight .fsm .mode))) (one-add k)
+          (tick-phase k (s .flight) (legsIn s) t
           (critical-shown (s .flight .battery) (t .dt) (t .reading) (i .shown-is)
           ∙ critical-stays (s .flight .battery) (t .dt) (t .reading) (latch-set s b (i .battery-is) q))
           p);
       latch = latch-ticked b t q;
     }
-on-took s m b l k (reports failed) i h p q = record { phase = rw (zero-add k) (report-keeps-phase k (s .flight) failed p); latch = q }
-on-took s m b l k (commands ev level low) i h p q = absurd h
-on-took s m b l k (points x) i h p q = record { phase = rw (zero-add k) p; latch = q }
-on-took s m b l k (zones x) i h p q = record { phase = rw (zero-add k) p; latch = q }
+on-took s m b l j k (reports failed) i h p q = record { phase = rw (zero-add k) (report-keeps-phase k (s .flight) failed p); latch = q }
+on-took s m b l j k (commands ev level low) i h p q = absurd h
+on-took s m b l j k (plans x) i h p q = record { phase = rw (zero-add k, planned-mode (s .flight) x) p; latch = q }
 
 on-seen :
-    (s : Supervisor) (m : Mode) (b : Option Battery) (l : List Began) (k : ℕ) (a : Answered) (r : Option Request)
+    (s : Supervisor) (m : Mode) (b : Option Battery) (l : List Began) (j : ℕ) (k : ℕ) (a : Answered) (r : Option Request)
     → Seen s a r
-    → Inv s m b l
+    → Inv s m b l j
     → T (calm r)
     → T (phaseOf k m)
     → T (latchOf b)
     → On (tickCount r + k) (nextMode m a) (nextBattery b r)
-on-seen s m b l k _ _ (refused n) i h p q = record { phase = rw (zero-add k, refused-mode s m n (i .mode-is)) p; latch = q }
-on-seen s m b l k _ _ (took r e) i h p q =
-    rw (accepted-mode (afterOf s r) m (outputOf s r)) (on-took s m b l k r i h (subst (λ (x : Mode). T (phaseOf k x)) (i .mode-is) p) q)
+on-seen s m b l j k _ _ (refused n) i h p q = record { phase = rw (zero-add k, refused-mode s m n (i .mode-is)) p; latch = q }
+on-seen s m b l j k _ _ (took r e) i h p q =
+    rw (accepted-mode (afterOf s r) m (outputOf (s .flight) (legsIn s) r)) (on-took s m b l j k r i h (subst (λ (x : Mode). T (phaseOf k x)) (i .mode-is) p) q)
 
 on-call :
     (p : Place) (c : Call) (k : ℕ)
@@ -232,7 +231,7 @@ on-call :
     → T (latchOf (p .battery))
     → On (tickCount (taken (p .supervisor) c) + k) (nextPlace p c .mode) (nextPlace p c .battery)
 unfolding nextPlace
-on-call p c k i h f q = on-seen (p .supervisor) (p .mode) (p .battery) (p .began) k _ _ (seen (p .supervisor) c) i h f q
+on-call p c k i h f q = on-seen (p .supervisor) (p .mode) (p .battery) (p .began) (p .carried) k _ _ (seen (p .supervisor) c) i h f q
 
 swap : (a b c : ℕ) → a + (b + c) ≡ b + a + c
 swap a b c = omega arith

@@ -5,14 +5,14 @@ use mathlib.Core.List.{List, [], _∷_, _++_}
 use mathlib.Core.Logic.{_⊎_, _↔_, _≢_}
 use mathlib.Core.Option.{some}
 use mathlib.Core.Path.{_≡_}
-use lib.Dec.{T}
+use lib.Dec.{T, leb}
 use lib.Ieee.{Float, binary32, ofBits, lt}
 use Rattle.relay_fsm.specs.declared.Mode.the-variants.{Disarmed, Terminated}
 use Rattle.relay_fsm.specs.Mode.{isAirborneOf, rankOf}
 use Rattle.falcon_guidance.specs.declared.state.Tick.{Tick}
 use Rattle.falcon_flight.specs.Milestone.{heightOf}
 use Rattle.falcon_core.specs.Land.{landedOf, throughLandOf}
-use Rattle.falcon_core.specs.Calls.{ticks}
+use Rattle.falcon_core.specs.Calls.{ticks, legsIn}
 use Rattle.call_lists.specs.Lists.{Call, Place, Began, taken, placeFrom, placeAt, nextPlace, latchOf, calm, calmFrom, ticksFrom}
 
 -- "from the second accepted tick after it on"
@@ -40,10 +40,10 @@ unfoldable pub tumbling : Began → Bool
 tumbling b = isAirborneOf (b .mode) && lt tumblingTilt (b .tick .tilt)
 
 -- the n latest accepted ticks are there, and each began airborne with tilt above 1.05 rad
-unfoldable pub tumblingFor : ℕ → List Began → Bool
-tumblingFor zero l = true
-tumblingFor (suc n) [] = false
-tumblingFor (suc n) (b ∷ l) = tumbling b && tumblingFor n l
+unfoldable pub tumblingFor : ℕ → ℕ → List Began → Bool
+tumblingFor carried zero l = true
+tumblingFor carried (suc n) [] = leb (suc n) carried
+tumblingFor carried (suc n) (b ∷ l) = tumbling b && tumblingFor carried n l
 
 -- "Wherever in the list the shuttle is airborne with its critical battery latch set, then, as long as no command or opening is accepted after that place,
 -- the mode is Land, Disarmed or Terminated from the second accepted tick after it on, whatever the ticks and reports bring."
@@ -61,7 +61,7 @@ pub record Landed (here : Place) (c : Call) : Type 0 where
   pub is-tick : taken (here .supervisor) c ≡ some (ticks tick)
   pub low : T (underGround tick)
   pub disarmed : nextPlace here c .mode ≡ Disarmed
-  pub through-land : T (throughLandOf (here .supervisor .flight) tick)
+  pub through-land : T (throughLandOf (here .supervisor .flight) (legsIn (here .supervisor)) tick)
 
 -- "No tick or report lowers the rank, save ..": nor does any other call that is no accepted opening or command
 abbrev pub RankKept : Place → Call → Type 0
@@ -73,7 +73,7 @@ abbrev pub FiftyTicks : Place → Call → Type 0
 FiftyTicks here c =
     (t : Tick) →
     taken (here .supervisor) c ≡ some (ticks t) →
-    ((here .mode ≢ Terminated) × (nextPlace here c .mode ≡ Terminated)) ↔ T (tumblingFor tumblingTicks (nextPlace here c .began))
+    ((here .mode ≢ Terminated) × (nextPlace here c .mode ≡ Terminated)) ↔ T (tumblingFor (nextPlace here c .carried) tumblingTicks (nextPlace here c .began))
 
 -- all three at every place of a list of calls, first call first, from the state with no opening
 pub record Holds (calls : List Call) : Type 0 where

@@ -1,13 +1,17 @@
 -- A call by line: the state, the refusal and the whole buffer after it.
 use Prim.Native.Nat.{ℕ, _*_}
 use mathlib.Core.Bool.{cond}
-use mathlib.Core.List.{List, _++_}
+use mathlib.Core.List.{List, [], _++_}
 use lib.Dec.{ltb}
 use lib.ListN.{length, drop}
 use Rattle.falcon_core.specs.declared.state.Supervisor.{Supervisor}
 use Rattle.falcon_core.specs.declared.calls.Answered.{Answered}
+use Rattle.falcon_core.specs.declared.calls.Output.{Output}
+use Rattle.falcon_core.specs.declared.calls.Output.the-variants.{Nothing, Ticks}
 use Rattle.falcon_core.specs.Calls.{numbersOf}
-use Rattle.columns.specs.Field.{fieldWidth}
+use Rattle.columns.specs.declared.field.FieldRead.{FieldRead}
+use Rattle.columns.specs.declared.field.FieldRead.the-variants.{Number, Bad}
+use Rattle.columns.specs.Field.{fieldWidth, kindOf}
 use Rattle.columns.specs.Line.{lineOf}
 use Rattle.requests.specs.Kinds.{Asked, refuses, answeredBy}
 use Rattle.requests.specs.Line.{askedLine}
@@ -20,22 +24,45 @@ answerFields = 10
 abbrev pub answerWidth : ℕ
 answerWidth = fieldWidth * answerFields
 
+-- how many fields an answer buffer must have room for, by the line's kind
+unfoldable pub needFields : FieldRead → ℕ
+needFields (Number n) = answerFields
+needFields Bad = answerFields
+
+-- the most fields that an answer buffer must have room for
+abbrev pub mostNeeded : ℕ
+mostNeeded = answerFields
+
+-- the bytes that a line's answer buffer must have
+unfoldable pub needOf : List ℕ → ℕ
+needOf line = fieldWidth * needFields (kindOf line)
+
 -- 9: "answer buffer under 110 bytes; nothing written"
 abbrev pub shortBuffer : ℕ
 shortBuffer = 9
 
 -- what a call by line asks, with its answer buffer: 9 comes first
 unfoldable pub askedWith : List ℕ → List ℕ → Asked
-askedWith line out = cond (ltb (length out) answerWidth) (refuses shortBuffer) (askedLine line)
+askedWith line out = cond (ltb (length out) (needOf line)) (refuses shortBuffer) (askedLine line)
 
 -- the answer to a call by line
 unfoldable pub lineStep : Supervisor → List ℕ → List ℕ → Answered
 lineStep s line out = answeredBy s (askedWith line out)
 
--- the answer's ten fields as bytes
+-- the numbers of an answer behind its ten fields, with the state after it
+unfoldable pub extraOf : Supervisor → Output → List ℕ
+extraOf s Nothing = []
+extraOf s (Ticks t) = []
+
+-- the numbers of an answer
+unfoldable pub replyNumbers : Answered → List ℕ
+replyNumbers a = numbersOf (a .answer) ++ extraOf (a .supervisor) (a .answer .output)
+
+-- and as bytes
 unfoldable pub replyOf : Answered → List ℕ
-replyOf a = lineOf (numbersOf (a .answer))
+replyOf a = lineOf (replyNumbers a)
 
 -- "under 110 bytes nothing is written; else the ten fields", and "Bytes after 110 are untouched."
 unfoldable pub bufferAfter : Supervisor → List ℕ → List ℕ → List ℕ
-bufferAfter s line out = cond (ltb (length out) answerWidth) out (replyOf (lineStep s line out) ++ drop answerWidth out)
+bufferAfter s line out =
+    cond (ltb (length out) (needOf line)) out (replyOf (lineStep s line out) ++ drop (length (replyOf (lineStep s line out))) out)

@@ -7,13 +7,12 @@ use lib.Dec.{eqb}
 use Rattle.relay_fsm.specs.declared.Mode.{Mode}
 use Rattle.relay_fsm.specs.declared.Mode.the-variants.{Disarmed}
 use Rattle.relay_batt.specs.declared.battery.Battery.{Battery}
-use Rattle.relay_batt.specs.Battery.{openedOf, updateOf}
-use Rattle.relay_batt.specs.Config.{forOpeningVoltsOf}
+use Rattle.relay_batt.specs.Battery.{updateOf}
 use Rattle.falcon_guidance.specs.declared.state.Tick.{Tick}
 use Rattle.falcon_core.specs.declared.state.Supervisor.{Supervisor}
 use Rattle.falcon_core.specs.declared.calls.Answered.{Answered}
 use Rattle.falcon_core.specs.State.{unopened}
-use Rattle.falcon_core.specs.Calls.{Request, opens, ticks, reports, commands, points, zones}
+use Rattle.falcon_core.specs.Calls.{Request, opens, ticks, reports, commands, plans, startOf}
 use Rattle.requests.specs.Kinds.{Asked, refuses, asks, answeredBy}
 use Rattle.call_lists.specs.Entry.{askedWith}
 
@@ -49,12 +48,13 @@ pub record Began : Type 0 where
   pub mode : Mode
   pub tick : Tick
 
--- a place: the state there, the mode there, the battery there, and the accepted ticks since the latest accepted opening, the latest first
+-- a place: the state there, the mode there, the battery there, and the accepted ticks since the latest accepted opening, the latest first, with what that opening brought
 pub record Place : Type 0 where
   pub supervisor : Supervisor
   pub mode : Mode
   pub battery : Option Battery
   pub began : List Began
+  pub carried : ℕ
 
 -- "The mode there is the one that the latest accepted call answered, 0 before any."
 abbrev pub nextMode : Mode → Answered → Mode
@@ -68,12 +68,11 @@ ticked (some b) t = some (updateOf b (t .dt) (t .reading))
 -- "starting from what the latest accepted opening sets and run over dt and reading of each accepted tick since"
 abbrev pub nextBattery : Option Battery → Option Request → Option Battery
 nextBattery b none = b
-nextBattery b (some (opens o)) = some (openedOf (forOpeningVoltsOf (o .«low_batt_v»)))
+nextBattery b (some (opens o)) = some (startOf o .battery)
 nextBattery b (some (ticks t)) = ticked b t
 nextBattery b (some (reports failed)) = b
 nextBattery b (some (commands ev level low)) = b
-nextBattery b (some (points l)) = b
-nextBattery b (some (zones l)) = b
+nextBattery b (some (plans p)) = b
 
 -- "A tick begins in the mode before it"; "all since the latest accepted opening"
 abbrev pub nextBegan : Mode → List Began → Option Request → List Began
@@ -82,8 +81,16 @@ nextBegan m l (some (opens o)) = []
 nextBegan m l (some (ticks t)) = record { mode = m; tick = t } ∷ l
 nextBegan m l (some (reports failed)) = l
 nextBegan m l (some (commands ev level low)) = l
-nextBegan m l (some (points p)) = l
-nextBegan m l (some (zones z)) = l
+nextBegan m l (some (plans p)) = l
+
+-- the ticks in a row, airborne and tilted, that the latest accepted opening brings with it
+abbrev pub nextCarried : ℕ → Option Request → ℕ
+nextCarried n none = n
+nextCarried n (some (opens o)) = startOf o .counts .«runaway_count»
+nextCarried n (some (ticks t)) = n
+nextCarried n (some (reports failed)) = n
+nextCarried n (some (commands ev level low)) = n
+nextCarried n (some (plans p)) = n
 
 -- "each further one the state that the call before it returned, after a refusal too"
 unfoldable pub nextPlace : Place → Call → Place
@@ -93,6 +100,7 @@ nextPlace p c =
       mode = nextMode (p .mode) (callStep (p .supervisor) c);
       battery = nextBattery (p .battery) (taken (p .supervisor) c);
       began = nextBegan (p .mode) (p .began) (taken (p .supervisor) c);
+      carried = nextCarried (p .carried) (taken (p .supervisor) c);
     }
 
 -- the place after a list of calls, first call first
@@ -102,7 +110,7 @@ placeFrom p (c ∷ l) = placeFrom (nextPlace p c) l
 
 -- "The first call gets the state with no opening": the place before the first call
 unfoldable pub start : Place
-start = record { supervisor = unopened; mode = Disarmed; battery = none; began = [] }
+start = record { supervisor = unopened; mode = Disarmed; battery = none; began = []; carried = 0 }
 
 -- the place after these calls
 abbrev pub placeAt : List Call → Place
@@ -120,8 +128,7 @@ calm (some (opens o)) = false
 calm (some (ticks t)) = true
 calm (some (reports failed)) = true
 calm (some (commands ev level low)) = false
-calm (some (points l)) = true
-calm (some (zones l)) = true
+calm (some (plans p)) = true
 
 -- "no command or opening is accepted" among the calls after a place
 unfoldable pub calmFrom : Place → List Call → Bool
@@ -135,8 +142,7 @@ tickCount (some (opens o)) = 0
 tickCount (some (ticks t)) = 1
 tickCount (some (reports failed)) = 0
 tickCount (some (commands ev level low)) = 0
-tickCount (some (points l)) = 0
-tickCount (some (zones l)) = 0
+tickCount (some (plans p)) = 0
 
 -- the accepted ticks among the calls after a place
 unfoldable pub ticksFrom : Place → List Call → ℕ

@@ -5,12 +5,12 @@ use native.Mathlib.Decide.{ℕ-discrete, decLe}
 use mathlib.Core.Path.{_≡_, refl, sym, ap, _∙_}
 use mathlib.Core.Bool.{and-false}
 use mathlib.Core.List.{List, [], _∷_, _++_}
-use lib.ListN.{length, take, drop, length-drop, take-append-drop}
-use lib.Seq.{take-at, drop-at, length-take-le}
+use lib.ListN.{length, getD, take, drop, length-take, length-drop, take-append-drop}
+use lib.Seq.{take-at, take-take, drop-at, length-take-le}
 use borrow.Author.Tests.{lt-ltb, le-ltb, le-leb, lt-leb, eq-eqb, ne-eqb}
 use Rattle.columns.specs.declared.field.FieldRead.{FieldRead}
 use Rattle.columns.specs.declared.field.FieldRead.the-variants.{Number, Bad}
-use Rattle.columns.specs.Field.{fieldWidth, readField, fieldOf}
+use Rattle.columns.specs.Field.{fieldWidth, readField, kindOf, fieldOf}
 use Rattle.columns.specs.Line.{Reading, read, broken, onto, before, fields, lengthOk, readWithin, lineOf, InRange}
 use Rattle.columns.proofs.FieldAgain.{length-field, read-written, read-only, read-range}
 use Rattle.columns.proofs.Writing.{length-line}
@@ -38,10 +38,25 @@ module _ (limit : ℕ) (s : List ℕ) where
   within-long long = simp (lt-leb (length s) (fieldWidth * limit) long, and-false)
 
 -- a line over its limit is broken whatever stands behind the limit
-pub within-cut : (limit : ℕ) (s : List ℕ) → fieldWidth * limit < length s → readWithin limit s ≡ readWithin limit (take (fieldWidth * limit + 1) s)
-within-cut limit s long =
-    let cut : length (take (fieldWidth * limit + 1) s) ≡ fieldWidth * limit + 1 = length-take-le (fieldWidth * limit + 1) s (omega arith) in
-    within-long limit s long ∙ sym (within-long limit (take (fieldWidth * limit + 1) s) (omega arith))
+pub within-cut : (limit most : ℕ) (s : List ℕ) → limit ≤ most → fieldWidth * most < length s → readWithin limit s ≡ readWithin limit (take (fieldWidth * most + 1) s)
+within-cut limit most s low long =
+    let cut : length (take (fieldWidth * most + 1) s) ≡ fieldWidth * most + 1 = length-take-le (fieldWidth * most + 1) s (omega arith) in
+    within-long limit s (omega arith) ∙ sym (within-long limit (take (fieldWidth * most + 1) s) (omega arith))
+
+-- a line within two limits is read alike
+pub within-same : (a b : ℕ) (s : List ℕ) → length s ≤ fieldWidth * a → length s ≤ fieldWidth * b → readWithin a s ≡ readWithin b s
+unfolding readWithin lengthOk
+within-same a b s h k = simp (le-leb (length s) (fieldWidth * a) h, le-leb (length s) (fieldWidth * b) k)
+
+-- the first bytes of a line have its kind
+pub kind-cut : (n : ℕ) (s : List ℕ) → fieldWidth ≤ n → kindOf s ≡ kindOf (take n s)
+unfolding kindOf
+kind-cut n s h = ap readField (sym (take-take fieldWidth n s h))
+
+-- fewer bytes than a field are of no kind
+pub kind-short : (s : List ℕ) → length s < fieldWidth → Bad ≡ kindOf s
+unfolding kindOf readField
+kind-short s h = simp (ne-eqb (length (take fieldWidth s)) fieldWidth (λ e. omega (arith, length-take fieldWidth s, e)))
 
 -- ---- numbers written are read
 
@@ -137,3 +152,15 @@ line-only limit s ns h =
                 ]
           ]
     ]
+
+-- the kind of a line that is read is its first number
+kind-first : (limit : ℕ) (s ns : List ℕ) → IsLine limit s ns → kindOf s ≡ Number (getD ns 0 0)
+unfolding kindOf lineOf
+kind-first limit s [] h = absurd (omega (arith, h .some))
+kind-first limit s (n ∷ ns) h =
+    ap (λ (l : List ℕ). readField (take fieldWidth l)) (h .is)
+    ∙ ap readField (take-at (fieldOf n) (lineOf ns) fieldWidth (length-field n))
+    ∙ read-written n (h .range .0)
+
+pub first-number : (limit : ℕ) (s ns : List ℕ) → readWithin limit s ≡ read ns → kindOf s ≡ Number (getD ns 0 0)
+first-number limit s ns h = kind-first limit s ns (line-only limit s ns h)

@@ -43,6 +43,10 @@ spaced (b ∷ s) = cond (eqb b space) (spaced s) (start b s)
 unfoldable pub readField : List ℕ → FieldRead
 readField s = cond (eqb (length s) fieldWidth) (spaced s) Bad
 
+-- "The first field is the kind": what the first eleven bytes of a line say
+unfoldable pub kindOf : List ℕ → FieldRead
+kindOf line = readField (take fieldWidth line)
+
 -- the byte in front of a number's digits
 abbrev pub pad : ℕ
 pad = space

@@ -5,7 +5,7 @@ ghost use mathlib.Core.Path.{_≡_};
 ghost use mathlib.Core.List.{List, _∷_};
 ghost use lib.ListN.{length, set};
 ghost use lib.Seq.{slice};
-ghost use Rattle.columns.specs.Field.{fieldWidth, numberLimit, inRange, digits, spaced, readField, twoAt, eightAt, SkipsTo, DigitOf, fieldOf, spaces, put};
+ghost use Rattle.columns.specs.Field.{fieldWidth, numberLimit, inRange, digits, spaced, readField, kindOf, twoAt, eightAt, SkipsTo, DigitOf, fieldOf, spaces, put};
 ghost use Rattle.columns.specs.Line.{writtenOver};
 
 // The bytes of a field.
@@ -218,6 +218,16 @@ pub fn read_field_of(field: &[u8]) -> FieldRead
         return FieldRead::Bad;
     }
     read_field(field, 0)
+}
+
+// The number of a line's first field, or at least NUMBER_LIMIT.
+pub fn read_kind(line: &[u8]) -> u64
+    ensures { λ r. ⌜ inRange r ≡ kindOf (now (line .entry)) ⌝ }
+{
+    if line.len() < FIELD {
+        return NUMBER_LIMIT;
+    }
+    read_plain(line, 0)
 }
 
 // Spaces in the field at `at`.

@@ -1,13 +1,14 @@
 // A line: fields, one after the other.
 
 ghost use mathlib.Core.Path.{_≡_};
+ghost use Prim.Native.Nat.{_≤_};
 ghost use lib.ListN.{length};
 ghost use Rattle.columns.specs.Line.{readWithin, readingOf, Counted};
 use crate::field::FIELD;
 use crate::field::FieldRead;
 use crate::field::read_field;
 
-// The most fields of a line.
+// The fields of a line of document 01's kinds, at most.
 pub const LINE_FIELDS: usize = 130;
 
 // What a line says: how many numbers, which the caller's array holds.
@@ -16,9 +17,10 @@ pub enum LineRead {
     Broken,
 }
 
-// The numbers of a line that may have as many fields as the array has places.
-pub fn read_line(line: &[u8], numbers: &mut [u32]) -> LineRead
-    ensures { λ r. ⌜ readingOf r (now (numbers .exit)) ≡ readWithin (length (now (numbers .entry))) (now (line .entry)) ⌝ }
+// The numbers of a line that may have so many fields.
+pub fn read_line(line: &[u8], limit: usize, numbers: &mut [u32]) -> LineRead
+    requires { ⌜ limit ≤ length (now numbers) ⌝ }
+    ensures { λ r. ⌜ readingOf r (now (numbers .exit)) ≡ readWithin limit (now (line .entry)) ⌝ }
     ensures { λ r. ⌜ Counted r (now (numbers .exit)) ⌝ }
 {
     let n = line.len();
@@ -29,7 +31,7 @@ pub fn read_line(line: &[u8], numbers: &mut [u32]) -> LineRead
         return LineRead::Broken;
     }
     let count = n / FIELD;
-    if numbers.len() < count {
+    if limit < count {
         return LineRead::Broken;
     }
     let mut at = 0;

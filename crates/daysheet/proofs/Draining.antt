@@ -1,5 +1,5 @@
 -- The turns of `drain`: lines answered a buffer at a time. Assumes nothing.
-use Prim.Native.Nat.{ℕ, zero, suc, _+_, _/_, _≤_}
+use Prim.Native.Nat.{ℕ, zero, suc, _+_, _≤_}
 use native.Mathlib.Nat.{zero-add, suc-add}
 use native.Mathlib.Omega.{arith}
 use mathlib.Core.Path.{_≡_, refl, sym, ap, _∙_}
@@ -9,10 +9,13 @@ use lib.Seq.{take-all}
 use Rattle.falcon_core.specs.declared.state.Supervisor.{Supervisor}
 use Rattle.sheet.specs.declared.many.Progress.{Progress}
 use Rattle.sheet.specs.Lines.{whole, joined, statesAfter}
-use Rattle.sheet.specs.Many.{replyWidth, afterLine, fitting, replies, progressOf}
+use Rattle.call_lists.specs.Entry.{needOf}
+use Rattle.call_lists.proofs.Buffer.{needs-most}
+use Rattle.sheet.specs.Many.{replyMost, afterLine, replyLine, fittingRoom, fitting, replies, progressOf}
 use Rattle.sheet.proofs.LinesAgain.{joined-append, whole-most, whole-off, used-most}
 use Rattle.sheet.proofs.LinesCut.{states-append}
-use Rattle.sheet.proofs.Replies.{written-most}
+use Rattle.sheet.proofs.LinesFit.{fit-more}
+use Rattle.sheet.proofs.Replies.{written-most, fitting-prefix}
 
 take-more : (ls : List (List ℕ)) (k n : ℕ) → take (k + n) ls ≡ take k ls ++ take n (drop k ls)
 take-more ls zero n = ap (λ (m : ℕ). take m ls) (zero-add n)
@@ -23,16 +26,17 @@ take-more [] (suc k) n = ap (λ (m : ℕ). take m []) (suc-add k n) ∙ sym (tak
     take-none (suc m) = refl
 take-more (l ∷ ls) (suc k) n = ap (λ (m : ℕ). take m (l ∷ ls)) (suc-add k n) ∙ ap (λ (t : List (List ℕ)). l ∷ t) (take-more ls k n)
 
--- a list that is the first lines of another, by how many they are
-take-count : (ls : List (List ℕ)) (n : ℕ) → take (length (take n ls)) ls ≡ take n ls
-take-count ls zero = refl
-take-count [] (suc n) = refl
-take-count (l ∷ ls) (suc n) = ap (λ (t : List (List ℕ)). l ∷ t) (take-count ls n)
-
 -- the lines that fit hang on the buffer's length alone
-fitting-same : (ls : List (List ℕ)) (a b : List ℕ) → length a ≡ length b → fitting ls a ≡ fitting ls b
+fitting-same : (s : Supervisor) (ls : List (List ℕ)) (a b : List ℕ) → length a ≡ length b → fitting s ls a ≡ fitting s ls b
 unfolding fitting
-fitting-same ls a b e = ap (λ (n : ℕ). take (n / replyWidth) ls) e
+fitting-same s ls a b e = ap (fittingRoom s ls) e
+
+-- with room for the answer to a line of any kind, a line fits where one is
+fitting-some : (s : Supervisor) (ls : List (List ℕ)) (out : List ℕ) → replyMost ≤ length out → length (fitting s ls out) ≤ 0 → length ls ≤ 0
+unfolding fitting
+fitting-some s [] out h none = omega arith
+fitting-some s (l ∷ ls) out h none =
+    absurd (omega (arith, needs-most l, ap length (fit-more afterLine replyLine needOf s l ls (length out) (omega (arith, needs-most l)))))
 
 module _ (s₀ : Supervisor) (input : List ℕ) where
   -- k lines are answered and written, and the next are in the buffer
@@ -40,10 +44,10 @@ module _ (s₀ : Supervisor) (input : List ℕ) where
     pub state : s ≡ statesAfter afterLine s₀ (take k (whole input))
     pub read : used ≡ length (joined (take k (whole input)))
     pub most : k ≤ length (whole input)
-    pub room : replyWidth ≤ length out
-    pub next : p ≡ progressOf s (fitting (drop k (whole input)) out)
+    pub room : replyMost ≤ length out
+    pub next : p ≡ progressOf s (fitting s (drop k (whole input)) out)
 
-  pub drains-first : (d out : List ℕ) (p : Progress) → replyWidth ≤ length d → length out ≡ length d → p ≡ progressOf s₀ (fitting (whole input) d)
+  pub drains-first : (d out : List ℕ) (p : Progress) → replyMost ≤ length d → length out ≡ length d → p ≡ progressOf s₀ (fitting s₀ (whole input) d)
       → Drains s₀ 0 0 out p
   unfolding statesAfter joined
   drains-first d out p h e is =
@@ -52,17 +56,17 @@ module _ (s₀ : Supervisor) (input : List ℕ) where
         read = refl;
         most = omega arith;
         room = omega arith;
-        next = is ∙ ap (progressOf s₀) (fitting-same (whole input) d out (sym e));
+        next = is ∙ ap (progressOf s₀) (fitting-same s₀ (whole input) d out (sym e));
       }
 
   module _ (s : Supervisor) (used k : ℕ) (out : List ℕ) (p : Progress) (g : Drains s used k out p) where
     -- the lines in the buffer
     now : List (List ℕ)
-    now = fitting (drop k (whole input)) out
+    now = fitting s (drop k (whole input)) out
 
     some : take (k + length now) (whole input) ≡ take k (whole input) ++ now
-    unfolding now fitting
-    some = take-more (whole input) k (length now) ∙ ap (λ (t : List (List ℕ)). take k (whole input) ++ t) (take-count (drop k (whole input)) (length out / replyWidth))
+    unfolding now
+    some = take-more (whole input) k (length now) ∙ ap (λ (t : List (List ℕ)). take k (whole input) ++ t) (fitting-prefix s (drop k (whole input)) out)
 
     lines-are : p .lines ≡ length now
     unfolding now progressOf
@@ -71,7 +75,7 @@ module _ (s₀ : Supervisor) (input : List ℕ) where
     pub written-fits : p .written ≤ length out
     unfolding progressOf
     written-fits =
-        let e : p .written ≡ length (replies s (fitting (drop k (whole input)) out)) = ap (λ (q : Progress). q .written) (g .next) in
+        let e : p .written ≡ length (replies s (fitting s (drop k (whole input)) out)) = ap (λ (q : Progress). q .written) (g .next) in
         omega (arith, written-most s (drop k (whole input)) out)
 
     pub lines-most : k + p .lines ≤ length (whole input)
@@ -96,7 +100,7 @@ module _ (s₀ : Supervisor) (input : List ℕ) where
     pub lines-fit : k + p .lines ≤ length input
     lines-fit = omega (arith, lines-most, whole-most input)
 
-    pub drains-next : (d : List ℕ) (q : Progress) → length d ≡ length out → q ≡ progressOf (p .supervisor) (fitting (whole (drop (used + p .used) input)) out)
+    pub drains-next : (d : List ℕ) (q : Progress) → length d ≡ length out → q ≡ progressOf (p .supervisor) (fitting (p .supervisor) (whole (drop (used + p .used) input)) out)
         → Drains (p .supervisor) (used + p .used) (k + p .lines) d q
     unfolding now progressOf
     drains-next d q e is =
@@ -112,17 +116,17 @@ module _ (s₀ : Supervisor) (input : List ℕ) where
           room = omega (arith, g .room);
           next =
               is
-              ∙ ap (progressOf (p .supervisor)) (fitting-same (whole (drop (used + p .used) input)) out d (sym e))
-              ∙ ap (λ (n : ℕ). progressOf (p .supervisor) (fitting (whole (drop n input)) d)) read-is
-              ∙ ap (λ (ls : List (List ℕ)). progressOf (p .supervisor) (fitting ls d)) (whole-off (k + p .lines) input);
+              ∙ ap (progressOf (p .supervisor)) (fitting-same (p .supervisor) (whole (drop (used + p .used) input)) out d (sym e))
+              ∙ ap (λ (n : ℕ). progressOf (p .supervisor) (fitting (p .supervisor) (whole (drop n input)) d)) read-is
+              ∙ ap (λ (ls : List (List ℕ)). progressOf (p .supervisor) (fitting (p .supervisor) ls d)) (whole-off (k + p .lines) input);
         }
 
     -- no line is in the buffer: all are answered
     all-done : p .lines ≤ 0 → take k (whole input) ≡ whole input
-    unfolding now fitting
+    unfolding now
     all-done h =
         take-all k (whole input)
-        (omega (arith, lines-are, g .room, g .most, length-take (length out / replyWidth) (drop k (whole input)), length-drop k (whole input)))
+        (omega (arith, fitting-some s (drop k (whole input)) out (g .room) (omega (arith, lines-are)), length-drop k (whole input)))
 
     pub drains-last : p .lines ≤ 0 → (s ≡ statesAfter afterLine s₀ (whole input)) × (used ≡ length (joined (whole input)))
     drains-last h =

@@ -4,7 +4,7 @@ ghost use Prim.Native.Nat.{_+_, _≤_, _<_};
 ghost use mathlib.Core.Path.{_≡_};
 ghost use lib.ListN.{length};
 ghost use Rattle.sheet.specs.Lines.{keptWidth, whole, joined, statesAfter};
-ghost use Rattle.sheet.specs.Many.{replyWidth, afterLine};
+ghost use Rattle.sheet.specs.Many.{replyMost, afterLine};
 use falcon_core::state::Supervisor;
 use libc::STDIN_FILENO;
 use libc::STDOUT_FILENO;
@@ -47,7 +47,7 @@ fn write(is_written: bool, out: &[u8], n: usize) -> bool
 
 // Answers every line that a newline ends, a buffer of answers at a time.
 fn drain(s: Supervisor, input: &[u8], out: &mut [u8]) -> Drained
-    requires { ⌜ replyWidth ≤ length (now out) ⌝ }
+    requires { ⌜ replyMost ≤ length (now out) ⌝ }
     ensures { λ r. ⌜ r .supervisor ≡ statesAfter afterLine s (whole (now (input .entry))) ⌝ }
     ensures { λ r. ⌜ r .used ≡ length (joined (whole (now (input .entry)))) ⌝ }
 {
@@ -73,7 +73,7 @@ fn drain(s: Supervisor, input: &[u8], out: &mut [u8]) -> Drained
 
 // One read, the answers of the lines that it ends, and what is kept of the line begun.
 fn turn(s: Supervisor, buf: &mut [u8], have: usize, out: &mut [u8]) -> Kept
-    requires { ⌜ (have ≤ length (now buf)) × (replyWidth ≤ length (now out)) ⌝ }
+    requires { ⌜ (have ≤ length (now buf)) × (replyMost ≤ length (now out)) ⌝ }
     ensures { λ r. ⌜ (r .have ≤ keptWidth) × (r .have ≤ length (now (buf .entry))) ⌝ }
 {
     let end = fill(buf, have);
@@ -91,7 +91,7 @@ fn turn(s: Supervisor, buf: &mut [u8], have: usize, out: &mut [u8]) -> Kept
 
 // A last line without newline: one is put behind it.
 fn finish(s: Supervisor, is_written: bool, buf: &mut [u8], have: usize, out: &mut [u8])
-    requires { ⌜ (have < length (now buf)) × (replyWidth ≤ length (now out)) ⌝ }
+    requires { ⌜ (have < length (now buf)) × (replyMost ≤ length (now out)) ⌝ }
 {
     if (have == 0) | !is_written {
         return;
@@ -114,7 +114,7 @@ fn turns_left(goes_on: bool, turns: u64) -> u64
 
 // Reads to the input's end. A proved loop has to end, so it counts its turns down from a number that no run uses up.
 fn answer_all(buf: &mut [u8], out: &mut [u8])
-    requires { ⌜ (keptWidth < length (now buf)) × (replyWidth ≤ length (now out)) ⌝ }
+    requires { ⌜ (keptWidth < length (now buf)) × (replyMost ≤ length (now out)) ⌝ }
 {
     let mut supervisor = Supervisor::new();
     let mut have = 0;

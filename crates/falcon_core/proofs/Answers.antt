@@ -7,13 +7,15 @@ use mathlib.Core.Path.{_≡_, sym, _∙_}
 use lib.Dec.{eqb, eqb·suc-zero}
 use lib.ListN.{length}
 use lib.Ieee.{Float}
+use Rattle.falcon_guidance.specs.declared.state.Point.{Point}
+use Rattle.falcon_guidance.specs.declared.state.Legs.{Legs}
 use Rattle.falcon_guidance.specs.declared.state.Tick.{Tick}
 use Rattle.falcon_core.specs.declared.state.Supervisor.{Supervisor}
 use Rattle.falcon_flight.specs.declared.tick.Ticked.{Ticked}
 use Rattle.falcon_core.specs.declared.calls.Output.the-variants.{Nothing, Ticks}
 use Rattle.falcon_guidance.specs.declared.state.Mission.{Mission}
 use Rattle.falcon_failsafe.specs.State.{withMission, withZones}
-use Rattle.falcon_guidance.specs.Mission.{triedOf, allAdmissibleOf, loadedOf}
+use Rattle.falcon_guidance.specs.Mission.{noPoints, triedOf, allAdmissibleOf, loadedOf, loadedPointsOf}
 use Rattle.falcon_guidance.specs.declared.state.Zones.{Zones}
 use Rattle.falcon_guidance.specs.Zones.{loadedZonesOf}
 use Rattle.falcon_flight.specs.Tick.{tickOf}
@@ -22,9 +24,9 @@ use Rattle.falcon_failsafe.specs.declared.state.FlightSupervisor.{FlightSupervi
 use Rattle.falcon_failsafe.specs.declared.state.Opening.{Opening}
 use Rattle.falcon_failsafe.specs.State.{openedOf}
 use Rattle.falcon_failsafe.specs.Failsafe.{reportedOf}
-use Rattle.falcon_core.specs.Calls.{Request, opens, ticks, reports, commands, points, zones, miscounted, masksTooLarge, isOpening, isReport}
+use Rattle.falcon_core.specs.Calls.{Request, opens, ticks, reports, commands, plans, points, zones, miscounted, masksTooLarge, isOpening, isReport}
 use Rattle.falcon_core.specs.Calls.{noOpening, wrongCount, outOfRange, reportDue, noReportDue, inadmissible}
-use Rattle.falcon_core.specs.Calls.{commandedBy, dueAfter, refusalOf, afterOf, outputOf, refusedOf, acceptedOf, stepOf}
+use Rattle.falcon_core.specs.Calls.{commandedBy, dueAfter, refusalOf, legsIn, startOf, startPoints, plannedOf, flightAfter, waypointsAfter, outputOf, afterOf, refusedOf, acceptedOf, stepOf}
 
 -- a refusal that fits is answered and keeps the state
 pub step-refused : (s : Supervisor) (r : Request) (n : ℕ) → refusalOf s r ≡ suc n → stepOf s r ≡ refusedOf s (suc n)
@@ -32,7 +34,7 @@ unfolding stepOf
 step-refused s r n h = rw (h, eqb·suc-zero n)
 
 -- where none fits the call is accepted
-pub step-accepted : (s : Supervisor) (r : Request) → refusalOf s r ≡ 0 → stepOf s r ≡ acceptedOf (afterOf s r) (outputOf s r)
+pub step-accepted : (s : Supervisor) (r : Request) → refusalOf s r ≡ 0 → stepOf s r ≡ acceptedOf (afterOf s r) (outputOf (s .flight) (legsIn s) r)
 unfolding stepOf
 step-accepted s r h = rw h
 
@@ -63,10 +65,6 @@ module _ (s : Supervisor) (r : Request) where
   due-refused w m i p o d = sym (step-refused s r _ (rw (w, m, i, p, o, d)))
 
 module _ (s : Supervisor) where
-  pub undue-refused : (failed : Bool) → not (s .opened) ≡ false → not (s .«report_due») ≡ true → refusedOf s noReportDue ≡ stepOf s (reports failed)
-  unfolding refusalOf
-  undue-refused failed o d = sym (step-refused s (reports failed) _ (rw (o, d)))
-
   pub point-refused :
       (l : List Float) (ok : Bool) →
       ok ≡ allAdmissibleOf (s .flight .config) l (triedOf l) →
@@ -74,66 +72,36 @@ module _ (s : Supervisor) where
       not (s .opened) ≡ false →
       s .«report_due» ≡ false →
       not ok ≡ true →
-      refusedOf s inadmissible ≡ stepOf s (points l)
+      refusedOf s inadmissible ≡ stepOf s (plans (points l))
   unfolding refusalOf
-  point-refused l ok e c o d b = sym (step-refused s (points l) _ (rw (c, o, d, ← e, b)))
+  point-refused l ok e c o d b = sym (step-refused s (plans (points l)) _ (rw (c, o, d, ← e, b)))
 
   -- an accepted opening, from what its parts are
   pub opening-accepted :
-      (o : Opening) (f : FlightSupervisor) →
+      (o : Opening) (f : FlightSupervisor) (ps : List Point) →
       f ≡ openedOf o →
+      ps ≡ noPoints →
       masksTooLarge (opens o) ≡ false →
-      acceptedOf (record { flight = f; opened = true; «report_due» = false }) Nothing ≡ stepOf s (opens o)
-  unfolding refusalOf afterOf outputOf
-  opening-accepted o f e m = let h : refusalOf s (opens o) ≡ 0 = rw m in rw (step-accepted s (opens o) h, e)
-
-  -- an accepted report, from what its parts are
-  pub report-accepted :
-      (failed : Bool) (f : FlightSupervisor) →
-      f ≡ reportedOf (s .flight) failed →
-      not (s .opened) ≡ false →
-      not (s .«report_due») ≡ false →
-      acceptedOf (record { flight = f; opened = s .opened; «report_due» = false }) Nothing ≡ stepOf s (reports failed)
-  unfolding refusalOf afterOf outputOf
-  report-accepted failed f e o d = let h : refusalOf s (reports failed) ≡ 0 = rw (o, d) in rw (step-accepted s (reports failed) h, e)
-
-  -- an accepted command, from what its parts are
-  pub command-accepted :
-      (ev : Event) (level low : Bool) (f : FlightSupervisor) →
-      f ≡ commandedBy (s .flight) ev level low →
-      not (s .opened) ≡ false →
-      s .«report_due» ≡ false →
-      acceptedOf (record { flight = f; opened = s .opened; «report_due» = s .«report_due» }) Nothing ≡ stepOf s (commands ev level low)
-  unfolding refusalOf afterOf outputOf
-  command-accepted ev level low f e o d =
-      let h : refusalOf s (commands ev level low) ≡ 0 = rw (o, d) in rw (step-accepted s (commands ev level low) h, e)
-
--- an accepted tick, from what its parts are
-pub tick-accepted :
-    (s : Supervisor) (t : Tick) (k : Ticked) (due : Bool) →
-    k ≡ tickOf (s .flight) t →
-    due ≡ dueAfter (k .answer) →
-    not (s .opened) ≡ false →
-    s .«report_due» ≡ false →
-    acceptedOf (record { flight = k .flight; opened = s .opened; «report_due» = due }) (Ticks (k .answer)) ≡ stepOf s (ticks t)
-unfolding refusalOf afterOf outputOf
-tick-accepted s t k due ek ed o d = let h : refusalOf s (ticks t) ≡ 0 = simp (o, d) in rw (step-accepted s (ticks t) h, ed, ek)
+      acceptedOf (record { flight = f; waypoints = ps; opened = true; «report_due» = false }) Nothing ≡ stepOf s (opens o)
+  unfolding refusalOf afterOf flightAfter waypointsAfter startOf startPoints outputOf
+  opening-accepted o f ps e q m = let h : refusalOf s (opens o) ≡ 0 = rw m in rw (step-accepted s (opens o) h, e, q)
 
 -- an accepted list, from what its parts are
 pub points-accepted :
-    (s : Supervisor) (l : List Float) (m : Mission) (ok : Bool) →
+    (s : Supervisor) (l : List Float) (m : Mission) (ps : List Point) (ok : Bool) →
     m ≡ loadedOf l →
+    ps ≡ loadedPointsOf l →
     ok ≡ allAdmissibleOf (s .flight .config) l (triedOf l) →
     eqb (length l % 3) 0 ≡ true →
     not (s .opened) ≡ false →
     s .«report_due» ≡ false →
     not ok ≡ false →
-    acceptedOf (record { flight = withMission (s .flight) m; opened = s .opened; «report_due» = s .«report_due» }) Nothing ≡ stepOf s (points l)
-unfolding refusalOf afterOf outputOf
-points-accepted s l m ok em eo c o d b =
+    acceptedOf (record { flight = withMission (s .flight) m; waypoints = ps; opened = s .opened; «report_due» = s .«report_due» }) Nothing ≡ stepOf s (plans (points l))
+unfolding refusalOf afterOf flightAfter waypointsAfter plannedOf outputOf
+points-accepted s l m ps ok em ep eo c o d b =
     let a : allAdmissibleOf (s .flight .config) l (triedOf l) ≡ true = sym eo ∙ not-false ok b in
-    let h : refusalOf s (points l) ≡ 0 = simp (c, o, d, a) in
-    rw (step-accepted s (points l) h, em)
+    let h : refusalOf s (plans (points l)) ≡ 0 = simp (c, o, d, a) in
+    rw (step-accepted s (plans (points l)) h, em, ep, d)
 
 -- accepted zones, from what their parts are
 pub zones-accepted :
@@ -142,6 +110,6 @@ pub zones-accepted :
     eqb (length l % 4) 0 ≡ true →
     not (s .opened) ≡ false →
     s .«report_due» ≡ false →
-    acceptedOf (record { flight = withZones (s .flight) z; opened = s .opened; «report_due» = s .«report_due» }) Nothing ≡ stepOf s (zones l)
-unfolding refusalOf afterOf outputOf
-zones-accepted s l z ez c o d = let h : refusalOf s (zones l) ≡ 0 = simp (c, o, d) in rw (step-accepted s (zones l) h, ez)
+    acceptedOf (record { flight = withZones (s .flight) z; waypoints = s .waypoints; opened = s .opened; «report_due» = s .«report_due» }) Nothing ≡ stepOf s (plans (zones l))
+unfolding refusalOf afterOf flightAfter waypointsAfter plannedOf outputOf
+zones-accepted s l z ez c o d = let h : refusalOf s (plans (zones l)) ≡ 0 = simp (c, o, d) in rw (step-accepted s (plans (zones l)) h, ez, d)

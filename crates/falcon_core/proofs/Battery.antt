@@ -10,7 +10,7 @@ use Rattle.falcon_failsafe.specs.declared.state.FlightSupervisor.{FlightSupervi
 use Rattle.falcon_core.specs.declared.state.Supervisor.{Supervisor}
 use Rattle.falcon_failsafe.specs.State.{openedOf}
 use Rattle.falcon_core.specs.State.{unopened}
-use Rattle.falcon_core.specs.Calls.{Request, opens, ticks, reports, commands, points, zones, commandedBy, refusalOf, afterOf}
+use Rattle.falcon_core.specs.Calls.{Request, Planning, opens, ticks, reports, commands, plans, points, zones, commandedBy, refusalOf, legsIn, startOf, plannedOf, flightAfter, afterOf}
 use Rattle.falcon_core.specs.Sound.{runOf}
 use Rattle.falcon_core.proofs.Refused.{run-keeps}
 use Rattle.falcon_core.proofs.Parts.{reported-keeps}
@@ -21,17 +21,20 @@ use Rattle.falcon_core.proofs.Invariant.{reachable-sound}
 abbrev pub FromOpening : FlightSupervisor → Type 0
 FromOpening f = f .battery .est .cfg ≡ forOpeningVoltsOf (f .config .«low_batt_v»)
 
+planned-from-opening : (f : FlightSupervisor) (p : Planning) → FromOpening f → FromOpening (plannedOf f p)
+unfolding plannedOf
+planned-from-opening f p k = k
+
 after-from-opening : (s : Supervisor) (r : Request) → FromOpening (s .flight) → refusalOf s r ≡ 0 → FromOpening (afterOf s r .flight)
-unfolding afterOf commandedBy openedOf
+unfolding afterOf flightAfter startOf commandedBy openedOf
 after-from-opening s (opens o) k e = opened-cfg (forOpeningVoltsOf (o .«low_batt_v»))
 after-from-opening s (ticks t) k e =
-    ap (λ (b : Battery). b .est .cfg) (tick-battery (s .flight) t)
+    ap (λ (b : Battery). b .est .cfg) (tick-battery (s .flight) (legsIn s) t)
     ∙ update-cfg (s .flight .battery) (t .dt) (t .reading)
-    ∙ rw (tick-config (s .flight) t) k
+    ∙ rw (tick-config (s .flight) (legsIn s) t) k
 after-from-opening s (reports failed) k e = reported-keeps FromOpening (s .flight) failed k k
 after-from-opening s (commands ev level low) k e = k
-after-from-opening s (points l) k e = k
-after-from-opening s (zones l) k e = k
+after-from-opening s (plans p) k e = planned-from-opening (s .flight) p k
 
 unopened-from-opening : FromOpening (unopened .flight)
 unfolding unopened openedOf

@@ -11,22 +11,24 @@ use Rattle.relay_fsm.specs.declared.Mode.{Mode}
 use Rattle.relay_batt.specs.Config.{forOpeningVoltsOf}
 use Rattle.relay_batt.specs.Fits.{Fit}
 use Rattle.relay_batt.proofs.Fits.{fits-update, fits-new, fits-opening}
+use Rattle.falcon_guidance.specs.declared.state.Point.{Point}
 use Rattle.falcon_guidance.specs.declared.state.Hold.{Hold}
 use Rattle.falcon_failsafe.specs.declared.state.Opening.{Opening}
+use Rattle.falcon_guidance.specs.declared.state.Legs.{Legs}
 use Rattle.falcon_guidance.specs.declared.state.Tick.{Tick}
 use Rattle.falcon_failsafe.specs.declared.state.FlightSupervisor.{FlightSupervisor}
 use Rattle.falcon_core.specs.declared.state.Supervisor.{Supervisor}
 use Rattle.falcon_guidance.specs.State.{zerof, origin, noZone, nowhere, maxWaypoints, maxKeepoutZones}
 use Rattle.falcon_failsafe.specs.State.{openedOf}
 use Rattle.falcon_core.specs.State.{unopened}
-use Rattle.falcon_guidance.specs.Mission.{pointAtOf, triedOf, loadedOf}
+use Rattle.falcon_guidance.specs.Mission.{noPoints, pointAtOf, triedOf, loadedPointsOf}
 use Rattle.falcon_guidance.specs.Zones.{noPlace, zoneAtOf, keptOf as keptZonesOf, loadedZonesOf}
 use Rattle.falcon_failsafe.specs.Failsafe.{clearedOf, breachedOf, runawayOf, windOf}
 use Rattle.falcon_flight.specs.Milestone.{milestoneOf}
 use Rattle.falcon_hold.specs.Hold.{holdsOf, holdRestMs, holdRestS, holdBrakeMaxS, horizSpeedOf, brakePointOf, enteredOf, restOf, brakedOf, leftOf, keptOf, heldOf}
 use Rattle.falcon_flight.specs.Tick.{checkedOf, poweredOf, telemetryOf, sensedOf, afterBreach, afterRunaway, afterWind, afterMilestone, holdingOf, tickOf}
-use Rattle.falcon_core.specs.Calls.{Request, opens, ticks, reports, commands, points, zones, commandedBy, afterOf, stepOf}
-use Rattle.falcon_core.specs.Sound.{runOf, FitPoint, FitZone, FitHold, FitFlight, FitOpening, FitTick, Lent, EachLent}
+use Rattle.falcon_core.specs.Calls.{Request, Planning, opens, ticks, reports, commands, plans, points, zones, commandedBy, legsIn, startOf, startPoints, pointsAfter, plannedOf, flightAfter, waypointsAfter, afterOf, stepOf}
+use Rattle.falcon_core.specs.Sound.{runOf, FitPoint, FitZone, FitHold, FitFlight, FitOpening, FitTick, Lent, LentPlan, EachLent}
 use Rattle.falcon_core.proofs.Refused.{step-keeps}
 use Rattle.falcon_core.proofs.Parts.{cond-keeps, reported-keeps, tick-flight}
 use Rattle.falcon_core.proofs.Places.{filled-holds, replicate-holds, stored-filled, stored-zones-filled}
@@ -64,7 +66,7 @@ held-fits h m t k p =
 
 -- ---- the calls
 
-opened-fits : (o : Opening) → FitOpening o → FitFlight (openedOf o)
+opened-fits : (o : Opening) → FitOpening o → FitFlight (openedOf o) noPoints
 unfolding openedOf
 opened-fits o k = record {
   config = record { home = k .home; fence = k .fence; cruise = k .cruise; volts = k .volts };
@@ -74,10 +76,10 @@ opened-fits o k = record {
   hold = record { x = k .home .x; y = k .home .y; brake = zero-fits; rest = zero-fits };
 }
 
-tick-fits : (f : FlightSupervisor) (t : Tick) → FitTick t → FitFlight f → FitFlight (tickOf f t .flight)
+tick-fits : (f : FlightSupervisor) (ps : List Point) (l : Legs) (t : Tick) → FitTick t → FitFlight f ps → FitFlight (tickOf f l t .flight) ps
 unfolding holdingOf afterMilestone milestoneOf afterWind windOf afterRunaway runawayOf afterBreach breachedOf sensedOf telemetryOf poweredOf checkedOf clearedOf
-tick-fits f t l k =
-    subst FitFlight (sym (tick-flight f t))
+tick-fits f ps legs t l k =
+    subst (λ (g : FlightSupervisor). FitFlight g ps) (sym (tick-flight f legs t))
     (record {
       config = k .config;
       battery = fits-update (f .battery) (t .dt) (t .reading) (k .battery) (l .reading);
@@ -100,22 +102,16 @@ zone-fits : (l : List Float) → ((i : ℕ) → Fit (getD l i nan)) → (i : ℕ
 unfolding zoneAtOf
 zone-fits l h i = record { center = record { x = h (4 * i); y = h (4 * i + 1); z = h (4 * i + 2) }; radius = h (4 * i + 3) }
 
-after-fits : (s : Supervisor) (r : Request) → Lent r → FitFlight (s .flight) → FitFlight (afterOf s r .flight)
-unfolding afterOf commandedBy loadedOf loadedZonesOf
-after-fits s (opens o) l k = opened-fits o l
-after-fits s (ticks t) l k = tick-fits (s .flight) t l k
-after-fits s (reports failed) l k =
-    reported-keeps FitFlight (s .flight) failed k
-    (record { config = k .config; battery = k .battery; waypoints = k .waypoints; zones = k .zones; hold = k .hold })
-after-fits s (commands ev level low) l k = record { config = k .config; battery = k .battery; waypoints = k .waypoints; zones = k .zones; hold = k .hold }
-after-fits s (points ps) l k = record {
+planned-fits : (f : FlightSupervisor) (ws : List Point) (p : Planning) → LentPlan p → FitFlight f ws → FitFlight (plannedOf f p) (pointsAfter ws p)
+unfolding plannedOf loadedPointsOf loadedZonesOf
+planned-fits f ws (points ps) l k = record {
   config = k .config;
   battery = k .battery;
   waypoints = λ i. rw (stored-filled ps (triedOf ps)) (filled-holds FitPoint nowhere origin maxWaypoints (pointAtOf ps) (triedOf ps) i nowhere-fits origin-fits (point-fits ps l));
   zones = k .zones;
   hold = k .hold;
 }
-after-fits s (zones zs) l k = record {
+planned-fits f ws (zones zs) l k = record {
   config = k .config;
   battery = k .battery;
   waypoints = k .waypoints;
@@ -123,20 +119,30 @@ after-fits s (zones zs) l k = record {
   hold = k .hold;
 }
 
--- one call
-pub fits-step : (s : Supervisor) (r : Request) → Lent r → FitFlight (s .flight) → FitFlight (stepOf s r .supervisor .flight)
-fits-step s r l k = step-keeps s r (λ (u : Supervisor). FitFlight (u .flight)) k (λ e. after-fits s r l k)
+after-fits : (s : Supervisor) (r : Request) → Lent r → FitFlight (s .flight) (s .waypoints) → FitFlight (afterOf s r .flight) (afterOf s r .waypoints)
+unfolding afterOf flightAfter waypointsAfter startOf startPoints commandedBy
+after-fits s (opens o) l k = opened-fits o l
+after-fits s (ticks t) l k = tick-fits (s .flight) (s .waypoints) (legsIn s) t l k
+after-fits s (reports failed) l k =
+    reported-keeps (λ (g : FlightSupervisor). FitFlight g (s .waypoints)) (s .flight) failed k
+    (record { config = k .config; battery = k .battery; waypoints = k .waypoints; zones = k .zones; hold = k .hold })
+after-fits s (commands ev level low) l k = record { config = k .config; battery = k .battery; waypoints = k .waypoints; zones = k .zones; hold = k .hold }
+after-fits s (plans p) l k = planned-fits (s .flight) (s .waypoints) p l k
 
-pub fits-unopened : FitFlight (unopened .flight)
+-- one call
+pub fits-step : (s : Supervisor) (r : Request) → Lent r → FitFlight (s .flight) (s .waypoints) → FitFlight (stepOf s r .supervisor .flight) (stepOf s r .supervisor .waypoints)
+fits-step s r l k = step-keeps s r (λ (u : Supervisor). FitFlight (u .flight) (u .waypoints)) k (λ e. after-fits s r l k)
+
+pub fits-unopened : FitFlight (unopened .flight) (unopened .waypoints)
 unfolding unopened
 fits-unopened = opened-fits _ (record { home = origin-fits; fence = zero-fits; cruise = zero-fits; volts = zero-fits })
 
 -- a list of calls whose floats are f32 values
-pub run-fits : (s : Supervisor) (l : List Request) → EachLent l → FitFlight (s .flight) → FitFlight (runOf s l .flight)
+pub run-fits : (s : Supervisor) (l : List Request) → EachLent l → FitFlight (s .flight) (s .waypoints) → FitFlight (runOf s l .flight) (runOf s l .waypoints)
 unfolding runOf
 run-fits s [] h k = k
 run-fits s (r ∷ l) h k = run-fits (stepOf s r .supervisor) l (h .1) (fits-step s r (h .0) k)
 
 -- the same from the state with no opening
-pub fits-run : (l : List Request) → EachLent l → FitFlight (runOf unopened l .flight)
+pub fits-run : (l : List Request) → EachLent l → FitFlight (runOf unopened l .flight) (runOf unopened l .waypoints)
 fits-run l h = run-fits unopened l h fits-unopened

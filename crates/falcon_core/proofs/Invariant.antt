@@ -2,7 +2,7 @@
 use Prim.Native.Nat.{ℕ, _+_, _-_, _≤_, _<_, min}
 use native.Mathlib.Decide.{decLt}
 use native.Mathlib.Omega.{arith}
-use borrow.Author.Tests.{not-false, ltb-true, leb-false, lt-ltb, le-leb, ne-eqb}
+use borrow.Author.Tests.{not-false, ltb-true, leb-false, le-leb, ne-eqb}
 use mathlib.Core.Bool.{Bool, true, false, cond, _&&_, _||_}
 use mathlib.Core.Option.{Option, none, some}
 use mathlib.Core.List.{List}
@@ -31,20 +31,22 @@ use Rattle.falcon_guidance.specs.declared.state.Mission.{Mission}
 use Rattle.falcon_failsafe.specs.declared.state.Opening.{Opening}
 use Rattle.falcon_guidance.specs.declared.state.Point.{Point}
 use Rattle.falcon_guidance.specs.declared.state.Zone.{Zone}
+use Rattle.falcon_guidance.specs.declared.state.Legs.{Legs}
 use Rattle.falcon_guidance.specs.declared.state.Tick.{Tick}
 use Rattle.falcon_failsafe.specs.declared.state.FlightSupervisor.{FlightSupervisor}
 use Rattle.falcon_core.specs.declared.state.Supervisor.{Supervisor}
 use Rattle.falcon_guidance.specs.State.{origin, noZone, nowhere, maxWaypoints, maxKeepoutZones}
 use Rattle.falcon_failsafe.specs.State.{withMode, withTable, openedOf}
 use Rattle.falcon_core.specs.State.{unopened}
-use Rattle.falcon_guidance.specs.Mission.{waypointAdmissibleOf, triedOf, allAdmissibleOf, waypointAtOf, currentWaypointOf}
+use Rattle.falcon_guidance.specs.Mission.{noPoints, waypointAdmissibleOf, triedOf, allAdmissibleOf, legWaypointOf, currentWaypointOf}
 use Rattle.falcon_guidance.specs.Zones.{noPlace}
 use Rattle.falcon_failsafe.specs.Preflight.{navRowsOf, integrityRowsOf, readinessRowsOf, updatePreflightOf, escTelemetryOf}
 use Rattle.falcon_failsafe.specs.Failsafe.{modeAfter, clearedOf, breachGives, breachedOf, tiltedOf, tiltRunawayCycles, runawayCountOf, runawayEnough, runawayEvent, runawayCounted, runawayGives, runawayOf, windGives, windOf}
 use Rattle.falcon_flight.specs.Milestone.{arrivedOf, milestoneGives, legOf, milestoneOf}
 use Rattle.falcon_flight.specs.Tick.{checkedOf, poweredOf, telemetryOf, sensedOf, afterBreach, afterRunaway, afterWind, afterMilestone, holdingOf, tickOf}
-use Rattle.falcon_core.specs.Calls.{Request, opens, ticks, reports, commands, points, zones, commandedBy, refusalOf, afterOf, stepOf}
+use Rattle.falcon_core.specs.Calls.{Request, Planning, opens, ticks, reports, commands, plans, points, zones, planRefused, commandedBy, refusalOf, legsIn, startOf, startPoints, pointsAfter, plannedOf, flightAfter, waypointsAfter, afterOf, stepOf}
 use Rattle.falcon_core.specs.Sound.{runOf, SoundChecks, SoundMission, SoundTilt, SoundFlight}
+use Rattle.falcon_guidance.proofs.Waypoints.{waypoint-within}
 use Rattle.falcon_core.proofs.Refused.{accepted-passed, step-keeps, run-keeps}
 use Rattle.falcon_core.proofs.Parts.{cond-keeps, reported-keeps, tick-flight}
 use Rattle.falcon_core.proofs.Places.{untouched, sound-loaded, sound-zones-loaded}
@@ -128,7 +130,7 @@ masks-below required passed e =
     record { required-below = leb-false maskLimit required (both .0); passed-below = leb-false maskLimit passed (both .1) }
 
 -- an opening with masks below 2^21
-opened-sound : (o : Opening) → SoundChecks (newOf (o .required) (o .passed)) → SoundFlight (openedOf o)
+opened-sound : (o : Opening) → SoundChecks (newOf (o .required) (o .passed)) → SoundFlight (openedOf o) noPoints
 unfolding openedOf
 opened-sound o k = record {
   checks = legacy-sound (newOf (o .required) (o .passed)) k;
@@ -138,22 +140,22 @@ opened-sound o k = record {
   battery = sound-new (forOpeningVoltsOf (o .«low_batt_v»));
 }
 
-mode-sound : (f : FlightSupervisor) (m : Mode) (latched : Bool) → SoundTilt m (f .counts .«runaway_count») → SoundFlight f → SoundFlight (withMode f m latched)
-mode-sound f m latched h k = record { checks = k .checks; mission = k .mission; zones = k .zones; tilt = h; battery = k .battery }
+mode-sound : (f : FlightSupervisor) (ps : List Point) (m : Mode) (latched : Bool) → SoundTilt m (f .counts .«runaway_count») → SoundFlight f ps → SoundFlight (withMode f m latched) ps
+mode-sound f ps m latched h k = record { checks = k .checks; mission = k .mission; zones = k .zones; tilt = h; battery = k .battery }
 
-table-sound : (f : FlightSupervisor) (c : CheckTable) → SoundChecks c → SoundFlight f → SoundFlight (withTable f c)
-table-sound f c h k = record { checks = h; mission = k .mission; zones = k .zones; tilt = k .tilt; battery = k .battery }
+table-sound : (f : FlightSupervisor) (ps : List Point) (c : CheckTable) → SoundChecks c → SoundFlight f ps → SoundFlight (withTable f c) ps
+table-sound f ps c h k = record { checks = h; mission = k .mission; zones = k .zones; tilt = k .tilt; battery = k .battery }
 
-module _ (f : FlightSupervisor) (t : Tick) (k : SoundFlight f) where
-  cleared-sound : SoundFlight (clearedOf f)
+module _ (f : FlightSupervisor) (ps : List Point) (t : Tick) (k : SoundFlight f ps) where
+  cleared-sound : SoundFlight (clearedOf f) ps
   unfolding clearedOf
-  cleared-sound = mode-sound f (f .fsm .mode) _ (k .tilt) k
+  cleared-sound = mode-sound f ps (f .fsm .mode) _ (k .tilt) k
 
-  checked-sound : SoundFlight (checkedOf f t)
+  checked-sound : SoundFlight (checkedOf f t) ps
   unfolding checkedOf
-  checked-sound = table-sound f _ (preflight-sound (f .«check_table») _ _ _ t (k .checks)) k
+  checked-sound = table-sound f ps _ (preflight-sound (f .«check_table») _ _ _ t (k .checks)) k
 
-  powered-sound : SoundFlight (poweredOf f t)
+  powered-sound : SoundFlight (poweredOf f t) ps
   unfolding poweredOf
   powered-sound = record {
     checks = k .checks;
@@ -163,15 +165,15 @@ module _ (f : FlightSupervisor) (t : Tick) (k : SoundFlight f) where
     battery = sound-update (f .battery) (t .dt) (t .reading) (k .battery);
   }
 
-  telemetry-kept : SoundFlight (telemetryOf f t)
+  telemetry-kept : SoundFlight (telemetryOf f t) ps
   unfolding telemetryOf
-  telemetry-kept = table-sound f _ (telemetry-sound (f .«check_table») (t .«motor_rpm») (k .checks)) k
+  telemetry-kept = table-sound f ps _ (telemetry-sound (f .«check_table») (t .«motor_rpm») (k .checks)) k
 
-  breached-sound : SoundFlight (breachedOf f t)
+  breached-sound : SoundFlight (breachedOf f t) ps
   unfolding breachedOf
-  breached-sound = mode-sound f _ _ (event-tilt (f .fsm .mode) _ (breachGives f t) (k .tilt)) k
+  breached-sound = mode-sound f ps _ _ (event-tilt (f .fsm .mode) _ (breachGives f t) (k .tilt)) k
 
-  runaway-sound : SoundFlight (runawayOf f t)
+  runaway-sound : SoundFlight (runawayOf f t) ps
   unfolding runawayOf runawayGives runawayCounted
   runaway-sound = record {
     checks = k .checks;
@@ -181,7 +183,7 @@ module _ (f : FlightSupervisor) (t : Tick) (k : SoundFlight f) where
     battery = k .battery;
   }
 
-  wind-sound : SoundFlight (windOf f t)
+  wind-sound : SoundFlight (windOf f t) ps
   unfolding windOf
   wind-sound = record {
     checks = k .checks;
@@ -191,72 +193,81 @@ module _ (f : FlightSupervisor) (t : Tick) (k : SoundFlight f) where
     battery = k .battery;
   }
 
-  milestone-sound : SoundFlight (milestoneOf f t)
+  milestone-sound : (l : Legs) → SoundFlight (milestoneOf f l t) ps
   unfolding milestoneOf legOf
-  milestone-sound = record {
+  milestone-sound l = record {
     checks = k .checks;
     mission = record {
       places = k .mission .places;
-      leg = leg-next (isMode (f .fsm .mode) InMission) (arrivedOf f t) (f .mission .«wp_index») (f .mission .«wp_count») (k .mission .leg);
+      leg = leg-next (isMode (f .fsm .mode) InMission) (arrivedOf l t) (f .mission .«wp_index») (f .mission .«wp_count») (k .mission .leg);
     };
     zones = k .zones;
-    tilt = event-tilt (f .fsm .mode) _ (milestoneGives f t) (k .tilt);
+    tilt = event-tilt (f .fsm .mode) _ (milestoneGives f l t) (k .tilt);
     battery = k .battery;
   }
 
 -- a tick, paragraph by paragraph
-tick-sound : (f : FlightSupervisor) (t : Tick) → SoundFlight f → SoundFlight (tickOf f t .flight)
+tick-sound : (f : FlightSupervisor) (ps : List Point) (l : Legs) (t : Tick) → SoundFlight f ps → SoundFlight (tickOf f l t .flight) ps
 unfolding holdingOf afterMilestone afterWind afterRunaway afterBreach sensedOf
-tick-sound f t k =
-    let cleared = cleared-sound f t k in
-    let checked = checked-sound (clearedOf f) t cleared in
-    let powered = powered-sound (checkedOf (clearedOf f) t) t checked in
-    let sensed = telemetry-kept _ t powered in
-    let windy = wind-sound _ t (runaway-sound _ t (breached-sound _ t sensed)) in
-    let done = milestone-sound _ t windy in
-    subst SoundFlight (sym (tick-flight f t)) (record { checks = done .checks; mission = done .mission; zones = done .zones; tilt = done .tilt; battery = done .battery })
+tick-sound f ps l t k =
+    let cleared = cleared-sound f ps t k in
+    let checked = checked-sound (clearedOf f) ps t cleared in
+    let powered = powered-sound (checkedOf (clearedOf f) t) ps t checked in
+    let sensed = telemetry-kept _ ps t powered in
+    let windy = wind-sound _ ps t (runaway-sound _ ps t (breached-sound _ ps t sensed)) in
+    let done = milestone-sound _ ps t windy l in
+    subst (λ (g : FlightSupervisor). SoundFlight g ps) (sym (tick-flight f l t)) (record { checks = done .checks; mission = done .mission; zones = done .zones; tilt = done .tilt; battery = done .battery })
 
-after-sound : (s : Supervisor) (r : Request) → SoundFlight (s .flight) → refusalOf s r ≡ 0 → SoundFlight (afterOf s r .flight)
-unfolding afterOf commandedBy
-after-sound s (opens o) k e = opened-sound o (masks-below (o .required) (o .passed) (accepted-passed s (opens o) e .in-range))
-after-sound s (ticks t) k e = tick-sound (s .flight) t k
+-- an accepted opening starts from a sound flight
+pub start-sound : (s : Supervisor) (o : Opening) → refusalOf s (opens o) ≡ 0 → SoundFlight (startOf o) (startPoints o)
+unfolding startOf startPoints
+start-sound s o e = opened-sound o (masks-below (o .required) (o .passed) (accepted-passed s (opens o) e .in-range))
+
+planned-sound : (f : FlightSupervisor) (ps : List Point) (p : Planning) → SoundFlight f ps → planRefused f p ≡ false → SoundFlight (plannedOf f p) (pointsAfter ps p)
+unfolding plannedOf
+planned-sound f ps (points l) k e =
+    let t : allAdmissibleOf (f .config) l (triedOf l) ≡ true = not-false _ e in
+    record { checks = k .checks; mission = sound-loaded (f .config) l (rw t tt); zones = k .zones; tilt = k .tilt; battery = k .battery }
+planned-sound f ps (zones l) k e = record { checks = k .checks; mission = k .mission; zones = sound-zones-loaded l; tilt = k .tilt; battery = k .battery }
+
+after-sound : (s : Supervisor) (r : Request) → SoundFlight (s .flight) (s .waypoints) → refusalOf s r ≡ 0 → SoundFlight (afterOf s r .flight) (afterOf s r .waypoints)
+unfolding afterOf flightAfter waypointsAfter commandedBy
+after-sound s (opens o) k e = start-sound s o e
+after-sound s (ticks t) k e = tick-sound (s .flight) (s .waypoints) (legsIn s) t k
 after-sound s (reports failed) k e =
-    reported-keeps SoundFlight (s .flight) failed k (mode-sound (s .flight) _ true (on-tilt _ _ Failsafe _ (k .tilt)) k)
-after-sound s (commands ev level low) k e = mode-sound (s .flight) _ _ (on-tilt _ _ ev _ (k .tilt)) k
-after-sound s (points l) k e =
-    let t : allAdmissibleOf (s .flight .config) l (triedOf l) ≡ true = not-false _ (accepted-passed s (points l) e .admissible) in
-    record { checks = k .checks; mission = sound-loaded (s .flight .config) l (rw t tt); zones = k .zones; tilt = k .tilt; battery = k .battery }
-after-sound s (zones l) k e = record { checks = k .checks; mission = k .mission; zones = sound-zones-loaded l; tilt = k .tilt; battery = k .battery }
+    reported-keeps (λ (g : FlightSupervisor). SoundFlight g (s .waypoints)) (s .flight) failed k (mode-sound (s .flight) (s .waypoints) _ true (on-tilt _ _ Failsafe _ (k .tilt)) k)
+after-sound s (commands ev level low) k e = mode-sound (s .flight) (s .waypoints) _ _ (on-tilt _ _ ev _ (k .tilt)) k
+after-sound s (plans p) k e = planned-sound (s .flight) (s .waypoints) p k (accepted-passed s (plans p) e .admissible)
 
 -- a call, refused or accepted, keeps a sound state sound
-pub step-sound : (s : Supervisor) (r : Request) → SoundFlight (s .flight) → SoundFlight (stepOf s r .supervisor .flight)
-step-sound s r k = step-keeps s r (λ (u : Supervisor). SoundFlight (u .flight)) k (after-sound s r k)
+pub step-sound : (s : Supervisor) (r : Request) → SoundFlight (s .flight) (s .waypoints) → SoundFlight (stepOf s r .supervisor .flight) (stepOf s r .supervisor .waypoints)
+step-sound s r k = step-keeps s r (λ (u : Supervisor). SoundFlight (u .flight) (u .waypoints)) k (after-sound s r k)
 
 -- the state with no opening is sound
-pub unopened-sound : SoundFlight (unopened .flight)
+pub unopened-sound : SoundFlight (unopened .flight) (unopened .waypoints)
 unfolding unopened
 unopened-sound = opened-sound _ (record { required-below = lit< tt; passed-below = lit< tt })
 
 -- so does every list of calls
-pub run-sound : (s : Supervisor) (l : List Request) → SoundFlight (s .flight) → SoundFlight (runOf s l .flight)
-run-sound s l k = run-keeps (λ (u : Supervisor). SoundFlight (u .flight)) after-sound s l k
+pub run-sound : (s : Supervisor) (l : List Request) → SoundFlight (s .flight) (s .waypoints) → SoundFlight (runOf s l .flight) (runOf s l .waypoints)
+run-sound s l k = run-keeps (λ (u : Supervisor). SoundFlight (u .flight) (u .waypoints)) after-sound s l k
 
 -- every list of calls leads to a sound state
-pub reachable-sound : (l : List Request) → SoundFlight (runOf unopened l .flight)
+pub reachable-sound : (l : List Request) → SoundFlight (runOf unopened l .flight) (runOf unopened l .waypoints)
 reachable-sound l = run-sound unopened l unopened-sound
 
 -- "Every point in use is admissible."
 pub points-admissible :
     (l : List Request) (i : ℕ) →
     i < runOf unopened l .flight .mission .«wp_count» →
-    T (waypointAdmissibleOf (runOf unopened l .flight .config) (getD (runOf unopened l .flight .mission .waypoints) i nowhere))
+    T (waypointAdmissibleOf (runOf unopened l .flight .config) (getD (runOf unopened l .waypoints) i nowhere))
 points-admissible l i h = reachable-sound l .mission .places .fit i h
 
 -- the point flown to is the active leg's, and admissible, where there are points
-pub current-admissible : (c : Config) (m : Mission) → SoundMission c m → 0 < m .«wp_count» → T (waypointAdmissibleOf c (currentWaypointOf c m))
-unfolding currentWaypointOf waypointAtOf
-current-admissible c m k h =
+pub current-admissible : (c : Config) (ps : List Point) (m : Mission) → SoundMission c ps m → 0 < m .«wp_count» → T (waypointAdmissibleOf c (currentWaypointOf c ps m))
+unfolding currentWaypointOf legWaypointOf
+current-admissible c ps m k h =
     let i = min (m .«wp_index») (m .«wp_count» - 1) in
     let some-points : eqb (m .«wp_count») 0 ≡ false = ne-eqb (m .«wp_count») 0 (λ e. omega arith) in
-    let place : ltb i maxWaypoints ≡ true = lt-ltb i maxWaypoints (omega (arith, k .places .few)) in
-    rw (some-points, place) (k .places .fit i (omega arith))
+    let place = waypoint-within ps i (omega (arith, k .places .few, k .places .long)) in
+    rw some-points (subst (λ (p : Point). T (waypointAdmissibleOf c p)) place (k .places .fit i (omega arith)))

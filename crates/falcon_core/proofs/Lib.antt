@@ -1,4 +1,5 @@
 pub mod Answers
+pub mod FlightCalls
 pub mod Stages
 pub mod Rules
 pub mod Rank

@@ -12,6 +12,7 @@ use Rattle.relay_fsm.specs.Fsm.{rowOf, onOf}
 use Rattle.relay_fsm.proofs.Finite.{_⇒_, then, atM}
 use Rattle.relay_batt.specs.declared.battery.Battery.{Battery}
 use Rattle.relay_batt.specs.Battery.{updateOf, lostOf}
+use Rattle.falcon_guidance.specs.declared.state.Legs.{Legs}
 use Rattle.falcon_guidance.specs.declared.state.Tick.{Tick}
 use Rattle.falcon_failsafe.specs.declared.state.FlightSupervisor.{FlightSupervisor}
 use Rattle.falcon_failsafe.specs.Preflight.{outsideGeofenceOf}
@@ -45,8 +46,8 @@ report-phase zero = tt
 report-phase (suc zero) = tt
 report-phase (suc (suc k)) = tt
 
-pub tick-keeps-phase : (k : ℕ) (f : FlightSupervisor) (t : Tick) → T (phaseOf k (f .fsm .mode)) → T (phaseOf k (tickOf f t .flight .fsm .mode))
-tick-keeps-phase k f t h = tick-keeps (phaseOf k) f t (stages-phase k) h
+pub tick-keeps-phase : (k : ℕ) (f : FlightSupervisor) (l : Legs) (t : Tick) → T (phaseOf k (f .fsm .mode)) → T (phaseOf k (tickOf f l t .flight .fsm .mode))
+tick-keeps-phase k f l t h = tick-keeps (phaseOf k) f l t (stages-phase k) h
 
 pub report-keeps-phase :
     (k : ℕ) (f : FlightSupervisor) (failed : Bool) → T (phaseOf k (f .fsm .mode)) → T (phaseOf k (reportedOf f failed .fsm .mode))
@@ -80,11 +81,11 @@ breach-phase (suc zero) = tt
 breach-phase (suc (suc k)) = tt
 
 pub tick-phase :
-    (k : ℕ) (f : FlightSupervisor) (t : Tick)
+    (k : ℕ) (f : FlightSupervisor) (l : Legs) (t : Tick)
     → updateOf (f .battery) (t .dt) (t .reading) .state .critical ≡ true
     → T (phaseOf k (f .fsm .mode))
-    → T (phaseOf (suc k) (tickOf f t .flight .fsm .mode))
-tick-phase k f t e h =
+    → T (phaseOf (suc k) (tickOf f l t .flight .fsm .mode))
+tick-phase k f l t e h =
     let m : Mode = f .fsm .mode in
     let n : Mode = afterBreach f t .fsm .mode in
     let b : Bool = breachOf (sensedOf f t) t in
@@ -92,6 +93,6 @@ tick-phase k f t e h =
     let breach : T b = breach-critical (sensedOf f t) t (ap (λ (b : Battery). b .state .critical) (sensed-battery f t) ∙ e) in
     let on : T (phaseOf k m ⇒ phaseOf (suc k) n) =
     then (b && c) (phaseOf k m ⇒ phaseOf (suc k) n) (breach-by f t (onwards k) (breach-phase k)) (and-i b c breach (subst T (sym e) tt)) in
-    later-keeps (phaseOf (suc k)) f t
+    later-keeps (phaseOf (suc k)) f l t
     (and-r (breachRule (λ b c m n. phaseOf (suc k) m ⇒ phaseOf (suc k) n)) (laterKeep (phaseOf (suc k))) (stages-phase (suc k)))
     (then (phaseOf k m) (phaseOf (suc k) n) on h)

@@ -17,11 +17,11 @@ use Rattle.falcon_core.specs.declared.state.Supervisor.{Supervisor}
 use Rattle.falcon_guidance.specs.State.{maxWaypoints, maxKeepoutZones, origin, noZone, nowhere}
 use Rattle.falcon_guidance.specs.declared.state.Zone.{Zone}
 use Rattle.falcon_guidance.specs.Zones.{noPlace, zoneAtOf, keptOf, storedZonesOf, loadedZonesOf}
-use Rattle.falcon_guidance.specs.Mission.{waypointAdmissibleOf, pointAtOf, triedOf, allAdmissibleOf, storedOf, loadedOf}
-use Rattle.falcon_core.specs.Calls.{points, refusalOf, stepOf}
+use Rattle.falcon_guidance.specs.Mission.{waypointAdmissibleOf, pointAtOf, triedOf, allAdmissibleOf, storedOf, loadedOf, loadedPointsOf}
+use Rattle.falcon_core.specs.Calls.{plans, points, refusalOf, stepOf}
 use Rattle.falcon_core.specs.Sound.{firstOf, filledOf, Tidy, SoundMission, SoundZones}
 use Rattle.falcon_guidance.proofs.Waypoints.{tried-places}
-use Rattle.falcon_core.proofs.Parts.{points-flight}
+use Rattle.falcon_core.proofs.Parts.{points-flight, points-waypoints}
 
 module _ {A : Type 0} where
   pub length-first : (f : ℕ → A) (n : ℕ) → length (firstOf f n) ≡ n
@@ -138,28 +138,31 @@ pub stored-is : (l : List Float) (n : ℕ) → n ≤ maxWaypoints → storedOf l
 stored-is l n h = stored-filled l n ∙ filled-is origin maxWaypoints (pointAtOf l) n h
 
 -- "Only the first 16 points are tried and kept", the first leg is the first point's
-pub loaded-is :
-    (l : List Float) →
-    loadedOf l ≡
-    record {
-      waypoints = firstOf (pointAtOf l) (min (length l / 3) maxWaypoints) ++ replicate (maxWaypoints - min (length l / 3) maxWaypoints) origin;
-      «wp_count» = min (length l / 3) maxWaypoints;
-      «wp_index» = 0;
-    }
+pub loaded-is : (l : List Float) → loadedOf l ≡ record { «wp_count» = min (length l / 3) maxWaypoints; «wp_index» = 0 }
 unfolding loadedOf triedOf
-loaded-is l = rw (stored-is l (min (length l / 3) maxWaypoints) (tried-places l))
+loaded-is l = refl
+
+pub loaded-points-are :
+    (l : List Float) →
+    loadedPointsOf l ≡ firstOf (pointAtOf l) (min (length l / 3) maxWaypoints) ++ replicate (maxWaypoints - min (length l / 3) maxWaypoints) origin
+unfolding loadedPointsOf triedOf
+loaded-points-are l = stored-is l (min (length l / 3) maxWaypoints) (tried-places l)
 
 -- the mission after an accepted list
 pub points-loaded :
     (s : Supervisor) (l : List Float) →
-    refusalOf s (points l) ≡ 0 →
-    stepOf s (points l) .supervisor .flight .mission ≡
-    record {
-      waypoints = firstOf (pointAtOf l) (min (length l / 3) maxWaypoints) ++ replicate (maxWaypoints - min (length l / 3) maxWaypoints) origin;
-      «wp_count» = min (length l / 3) maxWaypoints;
-      «wp_index» = 0;
-    }
+    refusalOf s (plans (points l)) ≡ 0 →
+    stepOf s (plans (points l)) .supervisor .flight .mission ≡
+    record { «wp_count» = min (length l / 3) maxWaypoints; «wp_index» = 0 }
 points-loaded s l e = ap (λ (f : FlightSupervisor). f .mission) (points-flight s l e) ∙ loaded-is l
+
+-- and the waypoints
+pub points-kept :
+    (s : Supervisor) (l : List Float) →
+    refusalOf s (plans (points l)) ≡ 0 →
+    stepOf s (plans (points l)) .supervisor .waypoints ≡
+    firstOf (pointAtOf l) (min (length l / 3) maxWaypoints) ++ replicate (maxWaypoints - min (length l / 3) maxWaypoints) origin
+points-kept s l e = points-waypoints s l e ∙ loaded-points-are l
 
 -- ---- the zones of an accepted list
 
@@ -207,8 +210,8 @@ all-admissible c l (suc n) t i h =
     ]
 
 -- the mission of an accepted list is sound
-pub sound-loaded : (c : Config) (l : List Float) → T (allAdmissibleOf c l (triedOf l)) → SoundMission c (loadedOf l)
-unfolding loadedOf
+pub sound-loaded : (c : Config) (l : List Float) → T (allAdmissibleOf c l (triedOf l)) → SoundMission c (loadedPointsOf l) (loadedOf l)
+unfolding loadedOf loadedPointsOf
 sound-loaded c l t = record {
   places =
       subst

@@ -16,6 +16,7 @@ use Rattle.relay_fsm.specs.Fsm.{rowOf, onOf}
 use Rattle.relay_fsm.proofs.Finite.{_⇒_, then, either, isMode→eq, eq→isMode}
 use Rattle.relay_batt.specs.Battery.{updateOf}
 use Rattle.falcon_guidance.specs.declared.state.Config.{Config}
+use Rattle.falcon_guidance.specs.declared.state.Legs.{Legs}
 use Rattle.falcon_guidance.specs.declared.state.Tick.{Tick}
 use Rattle.falcon_failsafe.specs.declared.state.FlightSupervisor.{FlightSupervisor}
 use Rattle.falcon_failsafe.specs.Failsafe.{inFlight, modeAfter, tiltedOf, breachGives, runawayGives, windGives, reportedOf}
@@ -28,18 +29,18 @@ use Rattle.falcon_core.proofs.Rules.{breach-by, runaway-by, wind-by, mi
 -- what stays
 
 -- a tick keeps a mode that none of its stages leaves
-module _ (f : FlightSupervisor) (t : Tick) where
-  pub tick-disarmed : f .fsm .mode ≡ Disarmed → tickOf f t .flight .fsm .mode ≡ Disarmed
+module _ (f : FlightSupervisor) (l : Legs) (t : Tick) where
+  pub tick-disarmed : f .fsm .mode ≡ Disarmed → tickOf f l t .flight .fsm .mode ≡ Disarmed
   unfolding rowOf onOf
-  tick-disarmed e = isMode→eq _ _ (tick-keeps (λ m. isMode m Disarmed) f t tt (eq→isMode _ _ e))
+  tick-disarmed e = isMode→eq _ _ (tick-keeps (λ m. isMode m Disarmed) f l t tt (eq→isMode _ _ e))
 
-  pub tick-armed : f .fsm .mode ≡ Armed → tickOf f t .flight .fsm .mode ≡ Armed
+  pub tick-armed : f .fsm .mode ≡ Armed → tickOf f l t .flight .fsm .mode ≡ Armed
   unfolding rowOf onOf
-  tick-armed e = isMode→eq _ _ (tick-keeps (λ m. isMode m Armed) f t tt (eq→isMode _ _ e))
+  tick-armed e = isMode→eq _ _ (tick-keeps (λ m. isMode m Armed) f l t tt (eq→isMode _ _ e))
 
-  pub tick-terminated : f .fsm .mode ≡ Terminated → tickOf f t .flight .fsm .mode ≡ Terminated
+  pub tick-terminated : f .fsm .mode ≡ Terminated → tickOf f l t .flight .fsm .mode ≡ Terminated
   unfolding rowOf onOf
-  tick-terminated e = isMode→eq _ _ (tick-keeps (λ m. isMode m Terminated) f t tt (eq→isMode _ _ e))
+  tick-terminated e = isMode→eq _ _ (tick-keeps (λ m. isMode m Terminated) f l t tt (eq→isMode _ _ e))
 
 -- a rule with a test that fails
 unless : (p x q : Bool) → T ((p && not x) ⇒ q) → T p → x ≡ false → T q
@@ -48,19 +49,19 @@ unless p x q h hp e = then (p && not x) q h (and-i p (not x) hp (subst (λ (y : 
 -- "Failsafe only if the rank wanted exceeds the present one": outside the fence the return goes on until home is near, unless the battery is critical or
 -- the vehicle tumbles
 pub tick-rtl :
-    (f : FlightSupervisor) (t : Tick)
+    (f : FlightSupervisor) (l : Legs) (t : Tick)
     → f .fsm .mode ≡ Rtl
     → updateOf (f .battery) (t .dt) (t .reading) .state .critical ≡ false
     → tiltedOf t ≡ false
     → nearHomeOf (f .config) t ≡ false
-    → tickOf f t .flight .fsm .mode ≡ Rtl
+    → tickOf f l t .flight .fsm .mode ≡ Rtl
 unfolding rowOf onOf
-tick-rtl f t e noCritical noTilt notHome =
+tick-rtl f l t e noCritical noTilt notHome =
     let rtl0 : Bool = isMode (f .fsm .mode) Rtl in
     let rtl1 : Bool = isMode (afterBreach f t .fsm .mode) Rtl in
     let rtl2 : Bool = isMode (afterRunaway f t .fsm .mode) Rtl in
     let rtl3 : Bool = isMode (afterWind f t .fsm .mode) Rtl in
-    let rtl4 : Bool = isMode (afterMilestone f t .fsm .mode) Rtl in
+    let rtl4 : Bool = isMode (afterMilestone f l t .fsm .mode) Rtl in
     let h1 : T rtl1 =
     unless rtl0 (updateOf (f .battery) (t .dt) (t .reading) .state .critical) rtl1
     (breach-by f t (λ breach critical m n. (isMode m Rtl && not critical) ⇒ isMode n Rtl) tt) (eq→isMode _ _ e) noCritical in
@@ -69,9 +70,9 @@ tick-rtl f t e noCritical noTilt notHome =
     let h3 : T rtl3 = then rtl2 rtl3 (wind-by f t (λ gusty enough m n. isMode m Rtl ⇒ isMode n Rtl) tt) h2 in
     let h4 : T rtl4 =
     unless rtl3 (nearHomeOf (afterWind f t .config) t) rtl4
-    (milestone-by f t (λ high home ground arrived more m n. (isMode m Rtl && not home) ⇒ isMode n Rtl) tt) h3
+    (milestone-by f l t (λ high home ground arrived more m n. (isMode m Rtl && not home) ⇒ isMode n Rtl) tt) h3
     (ap (λ (c : Config). nearHomeOf c t) (wind-config f t) ∙ notHome) in
-    tick-mode f t ∙ isMode→eq _ _ h4
+    tick-mode f l t ∙ isMode→eq _ _ h4
 
 module _ (f : FlightSupervisor) (failed : Bool) where
   -- a report keeps the mode on the ground, in Land and in Terminated
@@ -111,9 +112,9 @@ land-from :
 land-from m n none later q h = rw q at h
 land-from m n (some e) later q h = or-r (isMode m Land) (isMode (onOf m e inFlight) Land || later) (rw q at h)
 
-module _ (f : FlightSupervisor) (t : Tick) where
+module _ (f : FlightSupervisor) (l : Legs) (t : Tick) where
   -- a tick whose milestone meets Land goes through Land
-  through : T (isMode (afterWind f t .fsm .mode) Land) → T (throughLandOf f t)
+  through : T (isMode (afterWind f t .fsm .mode) Land) → T (throughLandOf f l t)
   unfolding throughLandOf givenOf
   through h =
       let m0 : Mode = sensedOf f t .fsm .mode in
@@ -123,7 +124,7 @@ module _ (f : FlightSupervisor) (t : Tick) where
       let e1 : Option Event = breachGives (sensedOf f t) t in
       let e2 : Option Event = runawayGives (afterBreach f t) t in
       let e3 : Option Event = windGives (afterRunaway f t) t in
-      let l4 : Bool = ledToLand m3 (milestoneGives (afterWind f t) t) || false in
+      let l4 : Bool = ledToLand m3 (milestoneGives (afterWind f t) l t) || false in
       let l3 : Bool = ledToLand m2 e3 || l4 in
       let l2 : Bool = ledToLand m1 e2 || l3 in
       subst (λ (m : Mode). T (isMode m Land || (ledToLand m0 e1 || l2))) (sensed-mode f t)
@@ -140,23 +141,23 @@ module _ (f : FlightSupervisor) (t : Tick) where
 
   -- the milestone lowers it only from Land to Disarmed near the ground
   rank-milestone :
-      (rankOf (afterWind f t .fsm .mode) ≤ rankOf (afterMilestone f t .fsm .mode))
-      ⊎ T (isMode (afterWind f t .fsm .mode) Land && (nearGroundOf t && isMode (afterMilestone f t .fsm .mode) Disarmed))
+      (rankOf (afterWind f t .fsm .mode) ≤ rankOf (afterMilestone f l t .fsm .mode))
+      ⊎ T (isMode (afterWind f t .fsm .mode) Land && (nearGroundOf t && isMode (afterMilestone f l t .fsm .mode) Disarmed))
   unfolding rowOf onOf
   rank-milestone =
       ⊎-elim (λ u. inl (leb→le _ _ u)) inr
-      (either (leb (rankOf (afterWind f t .fsm .mode)) (rankOf (afterMilestone f t .fsm .mode)))
-      (isMode (afterWind f t .fsm .mode) Land && (nearGroundOf t && isMode (afterMilestone f t .fsm .mode) Disarmed))
-      (milestone-by f t (λ high home ground arrived more m n. leb (rankOf m) (rankOf n) || (isMode m Land && (ground && isMode n Disarmed))) tt))
+      (either (leb (rankOf (afterWind f t .fsm .mode)) (rankOf (afterMilestone f l t .fsm .mode)))
+      (isMode (afterWind f t .fsm .mode) Land && (nearGroundOf t && isMode (afterMilestone f l t .fsm .mode) Disarmed))
+      (milestone-by f l t (λ high home ground arrived more m n. leb (rankOf m) (rankOf n) || (isMode m Land && (ground && isMode n Disarmed))) tt))
 
   pub tick-rank :
-      (rankOf (f .fsm .mode) ≤ rankOf (tickOf f t .flight .fsm .mode))
-      ⊎ (T (nearGroundOf t) × (tickOf f t .flight .fsm .mode ≡ Disarmed) × T (throughLandOf f t))
+      (rankOf (f .fsm .mode) ≤ rankOf (tickOf f l t .flight .fsm .mode))
+      ⊎ (T (nearGroundOf t) × (tickOf f l t .flight .fsm .mode ≡ Disarmed) × T (throughLandOf f l t))
   tick-rank =
       let m3 : Mode = afterWind f t .fsm .mode in
-      let m4 : Mode = afterMilestone f t .fsm .mode in
+      let m4 : Mode = afterMilestone f l t .fsm .mode in
       let g : Bool = nearGroundOf t in
-      rw (tick-mode f t)
+      rw (tick-mode f l t)
       (⊎-elim (λ u. inl (le-trans rank-before u))
       (λ u.
       let v : T (g && isMode m4 Disarmed) = and-r (isMode m3 Land) (g && isMode m4 Disarmed) u in

@@ -7,6 +7,7 @@ use lib.Ieee.Fits.{and-l, and-r}
 use Rattle.relay_fsm.specs.declared.Mode.{Mode}
 use Rattle.relay_fsm.proofs.Finite.{_⇒_, then, all1, all2, all5, at1, at2, at5}
 use Rattle.relay_batt.specs.Battery.{updateOf}
+use Rattle.falcon_guidance.specs.declared.state.Legs.{Legs}
 use Rattle.falcon_guidance.specs.declared.state.Tick.{Tick}
 use Rattle.falcon_failsafe.specs.declared.state.FlightSupervisor.{FlightSupervisor}
 use Rattle.falcon_failsafe.specs.Failsafe.{modeAfter, breachOf, breachEvent, breachGives, tiltedOf, runawayEnough, runawayEvent, runawayCounted, runawayGives}
@@ -77,13 +78,14 @@ module _ (f : FlightSupervisor) (t : Tick) where
       rw (wind-mode f t)
       (at2 (λ b c m. r b c m (modeAfter m (windEvent m b c))) h (gustyOf t) (windEnough (windCounted (afterRunaway f t) t)) (afterRunaway f t .fsm .mode))
 
+module _ (f : FlightSupervisor) (l : Legs) (t : Tick) where
   pub milestone-by :
       (r : Rule5) → T (milestoneRule r)
-      → T (r (highOf (afterWind f t .config) t) (nearHomeOf (afterWind f t .config) t) (nearGroundOf t) (arrivedOf (afterWind f t) t) (moreOf (afterWind f t .mission)) (afterWind f t .fsm .mode) (afterMilestone f t .fsm .mode))
+      → T (r (highOf (afterWind f t .config) t) (nearHomeOf (afterWind f t .config) t) (nearGroundOf t) (arrivedOf l t) (moreOf (afterWind f t .mission)) (afterWind f t .fsm .mode) (afterMilestone f l t .fsm .mode))
   unfolding milestoneGives
   milestone-by r h =
-      rw (milestone-mode f t)
-      (at5 (λ a b c d e m. r a b c d e m (modeAfter m (milestoneEvent m a b c d e))) h (highOf (afterWind f t .config) t) (nearHomeOf (afterWind f t .config) t) (nearGroundOf t) (arrivedOf (afterWind f t) t) (moreOf (afterWind f t .mission)) (afterWind f t .fsm .mode))
+      rw (milestone-mode f l t)
+      (at5 (λ a b c d e m. r a b c d e m (modeAfter m (milestoneEvent m a b c d e))) h (highOf (afterWind f t .config) t) (nearHomeOf (afterWind f t .config) t) (nearGroundOf t) (arrivedOf l t) (moreOf (afterWind f t .mission)) (afterWind f t .fsm .mode))
 
 pub report-by :
     (r : Bool → Mode → Mode → Bool) → T (reportRule r)
@@ -100,11 +102,11 @@ laterKeep p =
 abbrev pub stagesKeep : (Mode → Bool) → Bool
 stagesKeep p = breachRule (λ b c m n. p m ⇒ p n) && laterKeep p
 
-module _ (p : Mode → Bool) (f : FlightSupervisor) (t : Tick) where
+module _ (p : Mode → Bool) (f : FlightSupervisor) (l : Legs) (t : Tick) where
   keep : Mode → Mode → Bool
   keep m n = p m ⇒ p n
 
-  pub later-keeps : T (laterKeep p) → T (p (afterBreach f t .fsm .mode)) → T (p (tickOf f t .flight .fsm .mode))
+  pub later-keeps : T (laterKeep p) → T (p (afterBreach f t .fsm .mode)) → T (p (tickOf f l t .flight .fsm .mode))
   unfolding keep
   later-keeps h q =
       let r : Bool = runawayRule (λ b c. keep) in
@@ -116,12 +118,12 @@ module _ (p : Mode → Bool) (f : FlightSupervisor) (t : Tick) where
       let m1 : Mode = afterBreach f t .fsm .mode in
       let m2 : Mode = afterRunaway f t .fsm .mode in
       let m3 : Mode = afterWind f t .fsm .mode in
-      let m4 : Mode = afterMilestone f t .fsm .mode in
+      let m4 : Mode = afterMilestone f l t .fsm .mode in
       let q2 : T (p m2) = then (p m1) (p m2) (runaway-by f t (λ b c. keep) hr) q in
       let q3 : T (p m3) = then (p m2) (p m3) (wind-by f t (λ b c. keep) hw) q2 in
-      rw (tick-mode f t) (then (p m3) (p m4) (milestone-by f t (λ a b c d e. keep) hs) q3)
+      rw (tick-mode f l t) (then (p m3) (p m4) (milestone-by f l t (λ a b c d e. keep) hs) q3)
 
-  pub tick-keeps : T (stagesKeep p) → T (p (f .fsm .mode)) → T (p (tickOf f t .flight .fsm .mode))
+  pub tick-keeps : T (stagesKeep p) → T (p (f .fsm .mode)) → T (p (tickOf f l t .flight .fsm .mode))
   unfolding keep
   tick-keeps h q =
       let b : Bool = breachRule (λ b c. keep) in

@@ -14,6 +14,7 @@ use Rattle.relay_fsm.specs.Mode.{isMode, isAirborneOf}
 use Rattle.relay_fsm.specs.Fsm.{rowOf, onOf}
 use Rattle.relay_fsm.proofs.Laws.{terminated-stays, terminate-ends, only-terminate-ends}
 use Rattle.falcon_failsafe.specs.declared.state.Counts.{Counts}
+use Rattle.falcon_guidance.specs.declared.state.Legs.{Legs}
 use Rattle.falcon_guidance.specs.declared.state.Tick.{Tick}
 use Rattle.falcon_failsafe.specs.declared.state.FlightSupervisor.{FlightSupervisor}
 use Rattle.falcon_failsafe.specs.Failsafe.{tiltedOf, runawayCountOf, runawayEnough, runawayCounted, reportedOf}
@@ -37,7 +38,7 @@ enough-of : (going : Bool) (n : ℕ) → (going && runawayEnough (cond going n 0
 enough-of true n = refl
 enough-of false n = refl
 
-module _ (f : FlightSupervisor) (t : Tick) where
+module _ (f : FlightSupervisor) (l : Legs) (t : Tick) where
   -- the breach keeps the flight in the air or out of it
   breach-airborne : isAirborneOf (afterBreach f t .fsm .mode) ≡ isAirborneOf (f .fsm .mode)
   unfolding rowOf onOf
@@ -49,9 +50,9 @@ module _ (f : FlightSupervisor) (t : Tick) where
 
   -- the ticks in a row that began airborne with tilt above 1.05
   pub tick-count :
-      tickOf f t .flight .counts .«runaway_count»
+      tickOf f l t .flight .counts .«runaway_count»
       ≡ cond (isAirborneOf (f .fsm .mode) && tiltedOf t) (saturatingAddOf (f .counts .«runaway_count») 1) 0
-  tick-count = ap (λ (n : Counts). n .«runaway_count») (tick-counts f t) ∙ counted
+  tick-count = ap (λ (n : Counts). n .«runaway_count») (tick-counts f l t) ∙ counted
 
   -- the runaway alone leads to Terminated
   breach-ends : isMode (afterBreach f t .fsm .mode) Terminated ≡ isMode (f .fsm .mode) Terminated
@@ -70,16 +71,16 @@ module _ (f : FlightSupervisor) (t : Tick) where
   unfolding rowOf onOf
   wind-ends = same→eq _ _ (wind-by f t (λ b c m n. Bool·beq (isMode n Terminated) (isMode m Terminated)) tt)
 
-  milestone-ends : isMode (afterMilestone f t .fsm .mode) Terminated ≡ isMode (afterWind f t .fsm .mode) Terminated
+  milestone-ends : isMode (afterMilestone f l t .fsm .mode) Terminated ≡ isMode (afterWind f t .fsm .mode) Terminated
   unfolding rowOf onOf
-  milestone-ends = same→eq _ _ (milestone-by f t (λ a b c d e m n. Bool·beq (isMode n Terminated) (isMode m Terminated)) tt)
+  milestone-ends = same→eq _ _ (milestone-by f l t (λ a b c d e m n. Bool·beq (isMode n Terminated) (isMode m Terminated)) tt)
 
   pub tick-ends :
-      isMode (tickOf f t .flight .fsm .mode) Terminated
+      isMode (tickOf f l t .flight .fsm .mode) Terminated
       ≡ (isMode (f .fsm .mode) Terminated
       || (isAirborneOf (f .fsm .mode) && tiltedOf t && runawayEnough (saturatingAddOf (f .counts .«runaway_count») 1)))
   tick-ends =
-      ap (λ (m : Mode). isMode m Terminated) (tick-mode f t)
+      ap (λ (m : Mode). isMode m Terminated) (tick-mode f l t)
       ∙ milestone-ends
       ∙ wind-ends
       ∙ runaway-ends

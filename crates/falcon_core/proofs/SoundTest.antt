@@ -129,17 +129,17 @@ checks-test : (k : CheckTable) → SoundChecks k → T (checksSoundOf k)
 unfolding checksSoundOf
 checks-test k h = and-i (ltb (k .required) maskLimit) (ltb (k .passed) maskLimit) (lt→ltb _ _ (h .required-below)) (lt→ltb _ _ (h .passed-below))
 
-counts-test : (c : Config) (m : Mission) (zs : Zones) → SoundMission c m → SoundZones zs → T (countsSoundOf m zs)
+counts-test : (c : Config) (ps : List Point) (m : Mission) (zs : Zones) → SoundMission c ps m → SoundZones zs → T (countsSoundOf m zs)
 unfolding countsSoundOf
-counts-test c m zs h k = and-i (leb (m .«wp_count») maxWaypoints) (leb (zs .«zone_count») maxKeepoutZones) (le→leb _ _ (h .places .few)) (le→leb _ _ (k .few))
+counts-test c ps m zs h k = and-i (leb (m .«wp_count») maxWaypoints) (leb (zs .«zone_count») maxKeepoutZones) (le→leb _ _ (h .places .few)) (le→leb _ _ (k .few))
 
-points-test : (c : Config) (m : Mission) → SoundMission c m → T (pointsSoundOf c m)
+points-test : (c : Config) (ps : List Point) (m : Mission) → SoundMission c ps m → T (pointsSoundOf c ps m)
 unfolding pointsSoundOf
-points-test c m h = each-below (λ i. waypointAdmissibleOf c (getD (m .waypoints) i nowhere)) (m .«wp_count») (h .places .fit)
+points-test c ps m h = each-below (λ i. waypointAdmissibleOf c (getD ps i nowhere)) (m .«wp_count») (h .places .fit)
 
-leg-test : (c : Config) (m : Mission) → SoundMission c m → T (legSoundOf m)
+leg-test : (c : Config) (ps : List Point) (m : Mission) → SoundMission c ps m → T (legSoundOf m)
 unfolding legSoundOf
-leg-test c m h = le→leb _ _ (h .leg)
+leg-test c ps m h = le→leb _ _ (h .leg)
 
 tilt-test : (m : Mode) (n : ℕ) → SoundTilt m n → T (tiltSoundOf m n)
 unfolding tiltSoundOf
@@ -150,26 +150,27 @@ tilt-test m n h =
       | no q ↦ or-i (ltb n tiltRunawayCycles) (isMode m Terminated) (eq→isMode m Terminated (h .ended (omega (arith, h .at-most))))
     ])
 
-places-test : (c : Config) (m : Mission) (zs : Zones) → SoundMission c m → SoundZones zs → T (unusedSoundOf m zs)
+places-test : (c : Config) (ps : List Point) (m : Mission) (zs : Zones) → SoundMission c ps m → SoundZones zs → T (unusedSoundOf ps m zs)
 unfolding unusedSoundOf
-places-test c m zs h k =
-    and-i (unusedSound zeroPoint nowhere maxWaypoints (m .waypoints) (m .«wp_count»)) _
-    (unused-test _ zeroPoint nowhere origin maxWaypoints (m .waypoints) (m .«wp_count») origin-zero (h .places))
+places-test c ps m zs h k =
+    and-i (unusedSound zeroPoint nowhere maxWaypoints ps (m .«wp_count»)) _
+    (unused-test _ zeroPoint nowhere origin maxWaypoints ps (m .«wp_count») origin-zero (h .places))
     (unused-test _ zeroZone noPlace noZone maxKeepoutZones (zs .zones) (zs .«zone_count») no-zone-zero k)
 
 -- a sound state passes every test
-pub sound-test : (s : Supervisor) → SoundFlight (s .flight) → T (soundOf s)
+pub sound-test : (s : Supervisor) → SoundFlight (s .flight) (s .waypoints) → T (soundOf s)
 unfolding soundOf
 sound-test s k =
     let f = s .flight in
+    let ps = s .waypoints in
     simp (
       is-true (checksSoundOf (f .«check_table»)) (checks-test (f .«check_table») (k .checks)),
-      is-true (countsSoundOf (f .mission) (f .zones)) (counts-test (f .config) (f .mission) (f .zones) (k .mission) (k .zones)),
-      is-true (pointsSoundOf (f .config) (f .mission)) (points-test (f .config) (f .mission) (k .mission)),
-      is-true (legSoundOf (f .mission)) (leg-test (f .config) (f .mission) (k .mission)),
+      is-true (countsSoundOf (f .mission) (f .zones)) (counts-test (f .config) ps (f .mission) (f .zones) (k .mission) (k .zones)),
+      is-true (pointsSoundOf (f .config) ps (f .mission)) (points-test (f .config) ps (f .mission) (k .mission)),
+      is-true (legSoundOf (f .mission)) (leg-test (f .config) ps (f .mission) (k .mission)),
       is-true (tiltSoundOf (f .fsm .mode) (f .counts .«runaway_count»)) (tilt-test (f .fsm .mode) (f .counts .«runaway_count») (k .tilt)),
       battery-test (f .battery) (k .battery),
-      is-true (unusedSoundOf (f .mission) (f .zones)) (places-test (f .config) (f .mission) (f .zones) (k .mission) (k .zones)),
+      is-true (unusedSoundOf ps (f .mission) (f .zones)) (places-test (f .config) ps (f .mission) (f .zones) (k .mission) (k .zones)),
     ) tt
 
 -- ---- and what passes is sound, its floats being f32 values
@@ -195,24 +196,25 @@ tilt-back m n t =
     }
 
 -- what passes every test is a sound state
-pub test-sound : (s : Supervisor) → FitFlight (s .flight) → T (soundOf s) → SoundFlight (s .flight)
+pub test-sound : (s : Supervisor) → FitFlight (s .flight) (s .waypoints) → T (soundOf s) → SoundFlight (s .flight) (s .waypoints)
 unfolding soundOf countsSoundOf pointsSoundOf legSoundOf unusedSoundOf
 test-sound s f t =
-    let test = each (soundTests (s .flight)) t in
+    let test = each (soundTests (s .flight) (s .waypoints)) t in
     let m = s .flight .mission in
+    let ps = s .waypoints in
     let zs = s .flight .zones in
     let few = leb (m .«wp_count») maxWaypoints in
     let few-zones = leb (zs .«zone_count») maxKeepoutZones in
-    let unused = unusedSound zeroPoint nowhere maxWaypoints (m .waypoints) (m .«wp_count») in
+    let unused = unusedSound zeroPoint nowhere maxWaypoints ps (m .«wp_count») in
     let unused-zones = unusedSound zeroZone noPlace maxKeepoutZones (zs .zones) (zs .«zone_count») in
     record {
       checks = checks-back (s .flight .«check_table») (test 0);
       mission = record {
         places =
-            unused-back _ zeroPoint nowhere origin maxWaypoints (m .waypoints) (m .«wp_count»)
+            unused-back _ zeroPoint nowhere origin maxWaypoints ps (m .«wp_count»)
             (λ i. origin-back _ (f .waypoints i))
             (leb→le _ _ (and-l few few-zones (test 1)))
-            (below-each (λ i. waypointAdmissibleOf (s .flight .config) (getD (m .waypoints) i nowhere)) (m .«wp_count») (test 2))
+            (below-each (λ i. waypointAdmissibleOf (s .flight .config) (getD ps i nowhere)) (m .«wp_count») (test 2))
             (and-l unused unused-zones (test 6));
         leg = leb→le _ _ (test 3);
       };
@@ -232,7 +234,7 @@ pub sound-unopened : T (soundOf unopened)
 sound-unopened = sound-test unopened unopened-sound
 
 -- one call, refused or accepted, from any sound state of f32 values, reached or read back
-pub sound-step : (s : Supervisor) (r : Request) → FitFlight (s .flight) → T (soundOf s) → T (soundOf (stepOf s r .supervisor))
+pub sound-step : (s : Supervisor) (r : Request) → FitFlight (s .flight) (s .waypoints) → T (soundOf s) → T (soundOf (stepOf s r .supervisor))
 sound-step s r f t = sound-test (stepOf s r .supervisor) (step-sound s r (test-sound s f t))
 
 -- every list of calls, refused ones among them, with no word on the floats of the calls
@@ -240,5 +242,5 @@ pub sound-run : (l : List Request) → T (soundOf (runOf unopened l))
 sound-run l = sound-test (runOf unopened l) (reachable-sound l)
 
 -- every list of calls from any sound state of f32 values
-pub sound-run-from : (s : Supervisor) (l : List Request) → FitFlight (s .flight) → T (soundOf s) → T (soundOf (runOf s l))
+pub sound-run-from : (s : Supervisor) (l : List Request) → FitFlight (s .flight) (s .waypoints) → T (soundOf s) → T (soundOf (runOf s l))
 sound-run-from s l f t = sound-test (runOf s l) (run-sound s l (test-sound s f t))

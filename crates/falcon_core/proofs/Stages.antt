@@ -8,6 +8,8 @@ use Rattle.relay_fsm.specs.declared.Event.the-variants.{Failsafe}
 use Rattle.relay_fsm.specs.Fsm.{onOf}
 use Rattle.relay_batt.specs.Battery.{updateOf}
 use Rattle.relay_preflight.specs.Verdict.{firstBlockerOf}
+use Rattle.falcon_guidance.specs.declared.state.Point.{Point}
+use Rattle.falcon_guidance.specs.declared.state.Legs.{Legs}
 use Rattle.falcon_guidance.specs.declared.state.Tick.{Tick}
 use Rattle.falcon_failsafe.specs.declared.state.FlightSupervisor.{FlightSupervisor}
 use Rattle.falcon_failsafe.specs.State.{withMode, withMotors}
@@ -17,15 +19,15 @@ use Rattle.falcon_failsafe.specs.Failsafe.{windCounted, windGives, windOf, moto
 use Rattle.falcon_flight.specs.Milestone.{milestoneGives, legOf, milestoneOf}
 use Rattle.falcon_hold.specs.Hold.{heldOf}
 use Rattle.falcon_flight.specs.Setpoint.{motorsOffOf}
-use Rattle.falcon_flight.specs.Tick.{checkedOf, poweredOf, telemetryOf, sensedOf, afterBreach, afterRunaway, afterWind, afterMilestone, holdingOf, answeredOf, tickOf}
+use Rattle.falcon_flight.specs.Tick.{checkedOf, poweredOf, telemetryOf, sensedOf, afterBreach, afterRunaway, afterWind, afterMilestone, holdingOf, answeredOf, endedOf, tickOf}
 use Rattle.falcon_core.specs.Calls.{allowedOf, commandedBy}
 
 -- the answer's paragraph changes only whether the motors were off
-pub answered-flight : (f : FlightSupervisor) (t : Tick) → answeredOf f t .flight ≡ withMotors f (motorsOffOf (f .fsm .mode))
+pub answered-flight : (f : FlightSupervisor) (p : Point) (t : Tick) → answeredOf f p t .flight ≡ withMotors f (motorsOffOf (f .fsm .mode))
 unfolding answeredOf
-answered-flight f t = go (motorsOffOf (f .fsm .mode)) refl
+answered-flight f p t = go (motorsOffOf (f .fsm .mode)) refl
   where
-    go : (off : Bool) → motorsOffOf (f .fsm .mode) ≡ off → answeredOf f t .flight ≡ withMotors f (motorsOffOf (f .fsm .mode))
+    go : (off : Bool) → motorsOffOf (f .fsm .mode) ≡ off → answeredOf f p t .flight ≡ withMotors f (motorsOffOf (f .fsm .mode))
     go true e = rw e
     go false e = rw e
 
@@ -48,10 +50,6 @@ module _ (f : FlightSupervisor) (t : Tick) where
   unfolding afterWind windOf
   wind-mode = refl
 
-  pub milestone-mode : afterMilestone f t .fsm .mode ≡ modeAfter (afterWind f t .fsm .mode) (milestoneGives (afterWind f t) t)
-  unfolding afterMilestone milestoneOf
-  milestone-mode = refl
-
   -- the battery that the breach sees: this tick's reading is in it
   pub sensed-battery : sensedOf f t .battery ≡ updateOf (f .battery) (t .dt) (t .reading)
   unfolding sensedOf telemetryOf poweredOf checkedOf clearedOf
@@ -72,36 +70,41 @@ module _ (f : FlightSupervisor) (t : Tick) where
   unfolding afterBreach breachedOf sensedOf telemetryOf poweredOf checkedOf clearedOf
   breach-counts = refl
 
+module _ (f : FlightSupervisor) (l : Legs) (t : Tick) where
+  pub milestone-mode : afterMilestone f l t .fsm .mode ≡ modeAfter (afterWind f t .fsm .mode) (milestoneGives (afterWind f t) l t)
+  unfolding afterMilestone milestoneOf
+  milestone-mode = refl
+
   -- the flight after a tick, by its fields
   pub tick-is :
-      tickOf f t .flight
+      tickOf f l t .flight
       ≡ record {
         config = f .config;
-        fsm = afterMilestone f t .fsm;
+        fsm = afterMilestone f l t .fsm;
         battery = updateOf (f .battery) (t .dt) (t .reading);
-        mission = record { waypoints = f .mission .waypoints; «wp_count» = f .mission .«wp_count»; «wp_index» = legOf (afterWind f t) t };
+        mission = record { «wp_count» = f .mission .«wp_count»; «wp_index» = legOf (afterWind f t) l t };
         zones = f .zones;
-        hold = heldOf (f .hold) (afterMilestone f t .fsm .mode) t;
+        hold = heldOf (f .hold) (afterMilestone f l t .fsm .mode) t;
         counts = record { «runaway_count» = runawayCounted (afterBreach f t) t; «wind_count» = windCounted (afterRunaway f t) t };
         «check_table» =
             escTelemetryOf (updatePreflightOf (f .«check_table») (f .config) (f .battery) (clearedOf f .«rtl_latched») t) (t .«motor_rpm»);
-        «rtl_latched» = afterMilestone f t .«rtl_latched»;
-        «motors_were_off» = motorsOffOf (afterMilestone f t .fsm .mode);
+        «rtl_latched» = afterMilestone f l t .«rtl_latched»;
+        «motors_were_off» = motorsOffOf (afterMilestone f l t .fsm .mode);
       }
-  unfolding tickOf holdingOf afterMilestone milestoneOf afterWind windOf afterRunaway runawayOf afterBreach breachedOf sensedOf telemetryOf poweredOf checkedOf clearedOf
-  tick-is = answered-flight (holdingOf (afterMilestone f t) t) t
+  unfolding tickOf endedOf holdingOf afterMilestone milestoneOf afterWind windOf afterRunaway runawayOf afterBreach breachedOf sensedOf telemetryOf poweredOf checkedOf clearedOf
+  tick-is = answered-flight (holdingOf (afterMilestone f l t) t) _ t
 
-  pub tick-mode : tickOf f t .flight .fsm .mode ≡ afterMilestone f t .fsm .mode
+  pub tick-mode : tickOf f l t .flight .fsm .mode ≡ afterMilestone f l t .fsm .mode
   tick-mode = ap (λ (g : FlightSupervisor). g .fsm .mode) tick-is
 
-  pub tick-config : tickOf f t .flight .config ≡ f .config
+  pub tick-config : tickOf f l t .flight .config ≡ f .config
   tick-config = ap (λ (g : FlightSupervisor). g .config) tick-is
 
-  pub tick-battery : tickOf f t .flight .battery ≡ updateOf (f .battery) (t .dt) (t .reading)
+  pub tick-battery : tickOf f l t .flight .battery ≡ updateOf (f .battery) (t .dt) (t .reading)
   tick-battery = ap (λ (g : FlightSupervisor). g .battery) tick-is
 
   pub tick-counts :
-      tickOf f t .flight .counts
+      tickOf f l t .flight .counts
       ≡ record { «runaway_count» = runawayCounted (afterBreach f t) t; «wind_count» = windCounted (afterRunaway f t) t }
   tick-counts = ap (λ (g : FlightSupervisor). g .counts) tick-is
 

@@ -14,6 +14,10 @@ use Rattle.relay_preflight.specs.Table.{outstandingOf, maskLimit}
 use Rattle.relay_preflight.specs.Verdict.{firstBlockerOf, blockerNumber}
 use Rattle.falcon_failsafe.specs.declared.state.Opening.{Opening}
 use Rattle.falcon_guidance.specs.declared.state.Tick.{Tick}
+use Rattle.falcon_guidance.specs.declared.state.Point.{Point}
+use Rattle.falcon_guidance.specs.declared.state.Mission.{Mission}
+use Rattle.falcon_guidance.specs.declared.state.Legs.{Legs}
+use Rattle.falcon_guidance.specs.declared.state.Zones.{Zones}
 use Rattle.falcon_failsafe.specs.declared.state.FlightSupervisor.{FlightSupervisor}
 use Rattle.falcon_core.specs.declared.state.Supervisor.{Supervisor}
 use Rattle.falcon_flight.specs.declared.tick.TickAnswer.{TickAnswer}
@@ -22,21 +26,27 @@ use Rattle.falcon_core.specs.declared.calls.Output.{Output}
 use Rattle.falcon_core.specs.declared.calls.Output.the-variants.{Nothing, Ticks}
 use Rattle.falcon_core.specs.declared.calls.Answer.{Answer}
 use Rattle.falcon_core.specs.declared.calls.Answered.{Answered}
+use Rattle.falcon_core.specs.declared.calls.FlightAnswered.{FlightAnswered}
 use Rattle.falcon_failsafe.specs.State.{openedOf, withMode, withMission, withZones}
-use Rattle.falcon_guidance.specs.Mission.{triedOf, allAdmissibleOf, loadedOf}
+use Rattle.falcon_guidance.specs.State.{origin}
+use Rattle.falcon_guidance.specs.Mission.{noPoints, triedOf, allAdmissibleOf, loadedOf, loadedPointsOf, legsOf}
 use Rattle.falcon_guidance.specs.Zones.{loadedZonesOf}
 use Rattle.falcon_failsafe.specs.Failsafe.{reportedOf}
 use Rattle.falcon_flight.specs.Tick.{tickOf}
 
--- what a call asks: an opening, a tick, a report (failed), a command (event, level, low throttle) points (three numbers each)
--- or zones (four numbers each)
+-- what the planner asks between ticks: points (three numbers each) or zones (four numbers each). It leaves the mode, the battery, the counts and the
+-- configuration as they are
+pub data Planning : Type 0 where
+  points : List Float → Planning
+  zones : List Float → Planning
+
+-- what a call asks: an opening, a tick, a report (failed), a command (event, level, low throttle) or what the planner asks
 pub data Request : Type 0 where
   opens : Opening → Request
   ticks : Tick → Request
   reports : Bool → Request
   commands : Event → Bool → Bool → Request
-  points : List Float → Request
-  zones : List Float → Request
+  plans : Planning → Request
 
 -- the refusals' numbers in document 01's table; 0 is accepted
 abbrev pub noOpening : ℕ
@@ -58,13 +68,16 @@ abbrev pub inadmissible : ℕ
 inadmissible = 8
 
 -- 4: "lent points not 3 each, zones not 4 each"
+abbrev pub miscountedPlan : Planning → Bool
+miscountedPlan (points l) = not (eqb (length l % 3) 0)
+miscountedPlan (zones l) = not (eqb (length l % 4) 0)
+
 abbrev pub miscounted : Request → Bool
 miscounted (opens o) = false
 miscounted (ticks t) = false
 miscounted (reports failed) = false
 miscounted (commands ev level low) = false
-miscounted (points l) = not (eqb (length l % 3) 0)
-miscounted (zones l) = not (eqb (length l % 4) 0)
+miscounted (plans p) = miscountedPlan p
 
 -- 5: "mask of 2^21 or more"
 abbrev pub masksTooLarge : Request → Bool
@@ -72,8 +85,7 @@ masksTooLarge (opens o) = leb maskLimit (o .required) || leb maskLimit (o .passe
 masksTooLarge (ticks t) = false
 masksTooLarge (reports failed) = false
 masksTooLarge (commands ev level low) = false
-masksTooLarge (points l) = false
-masksTooLarge (zones l) = false
+masksTooLarge (plans p) = false
 
 -- an opening is taken before any other call, and while a report is due
 abbrev pub isOpening : Request → Bool
@@ -81,25 +93,26 @@ isOpening (opens o) = true
 isOpening (ticks t) = false
 isOpening (reports failed) = false
 isOpening (commands ev level low) = false
-isOpening (points l) = false
-isOpening (zones l) = false
+isOpening (plans p) = false
 
 abbrev pub isReport : Request → Bool
 isReport (opens o) = false
 isReport (ticks t) = false
 isReport (reports failed) = true
 isReport (commands ev level low) = false
-isReport (points l) = false
-isReport (zones l) = false
+isReport (plans p) = false
 
 -- 8: "a tried point inadmissible"
+abbrev pub planRefused : FlightSupervisor → Planning → Bool
+planRefused f (points l) = not (allAdmissibleOf (f .config) l (triedOf l))
+planRefused f (zones l) = false
+
 abbrev pub pointRefused : Supervisor → Request → Bool
 pointRefused s (opens o) = false
 pointRefused s (ticks t) = false
 pointRefused s (reports failed) = false
 pointRefused s (commands ev level low) = false
-pointRefused s (points l) = not (allAdmissibleOf (s .flight .config) l (triedOf l))
-pointRefused s (zones l) = false
+pointRefused s (plans p) = planRefused (s .flight) p
 
 -- the refusal that fits, in the table's order: 4, 5, 1, 6, 7, 8; 0 where none does
 unfoldable pub refusalOf : Supervisor → Request → ℕ
@@ -129,46 +142,123 @@ abbrev pub dueAfter : TickAnswer → Bool
 dueAfter MotorsOff = false
 dueAfter (Setpoint ned landing rearm) = true
 
--- the state after an accepted call
-unfoldable pub afterOf : Supervisor → Request → Supervisor
-afterOf s (opens o) = record { flight = openedOf o; opened = true; «report_due» = false }
-afterOf s (ticks t) =
-    record { flight = tickOf (s .flight) t .flight; opened = s .opened; «report_due» = dueAfter (tickOf (s .flight) t .answer) }
-afterOf s (reports failed) = record { flight = reportedOf (s .flight) failed; opened = s .opened; «report_due» = false }
-afterOf s (commands ev level low) = record { flight = commandedBy (s .flight) ev level low; opened = s .opened; «report_due» = s .«report_due» }
-afterOf s (points l) = record { flight = withMission (s .flight) (loadedOf l); opened = s .opened; «report_due» = s .«report_due» }
-afterOf s (zones l) = record { flight = withZones (s .flight) (loadedZonesOf l); opened = s .opened; «report_due» = s .«report_due» }
+-- the waypoints of the active leg and of the next: all that a tick reads of the list
+abbrev pub legsIn : Supervisor → Legs
+legsIn s = legsOf (s .flight .config) (s .waypoints) (s .flight .mission)
+
+-- the flight and the waypoints that an accepted opening starts from
+unfoldable pub startOf : Opening → FlightSupervisor
+startOf o = openedOf o
+
+unfoldable pub startPoints : Opening → List Point
+startPoints o = noPoints
+
+-- the waypoints, the mission and the zones after what the planner asks
+abbrev pub pointsAfter : List Point → Planning → List Point
+pointsAfter ps (points l) = loadedPointsOf l
+pointsAfter ps (zones l) = ps
+
+abbrev pub missionAfter : FlightSupervisor → Planning → Mission
+missionAfter f (points l) = loadedOf l
+missionAfter f (zones l) = f .mission
+
+abbrev pub zonesAfter : FlightSupervisor → Planning → Zones
+zonesAfter f (points l) = f .zones
+zonesAfter f (zones l) = loadedZonesOf l
+
+-- the flight after what the planner asks
+unfoldable pub plannedOf : FlightSupervisor → Planning → FlightSupervisor
+plannedOf f p = withZones (withMission f (missionAfter f p)) (zonesAfter f p)
+
+-- the flight after an accepted call
+unfoldable pub flightAfter : FlightSupervisor → Legs → Request → FlightSupervisor
+flightAfter f l (opens o) = startOf o
+flightAfter f l (ticks t) = tickOf f l t .flight
+flightAfter f l (reports failed) = reportedOf f failed
+flightAfter f l (commands ev level low) = commandedBy f ev level low
+flightAfter f l (plans p) = plannedOf f p
+
+-- the waypoints after an accepted call: ticks, reports and commands leave them
+unfoldable pub waypointsAfter : List Point → Request → List Point
+waypointsAfter ps (opens o) = startPoints o
+waypointsAfter ps (ticks t) = ps
+waypointsAfter ps (reports failed) = ps
+waypointsAfter ps (commands ev level low) = ps
+waypointsAfter ps (plans p) = pointsAfter ps p
 
 -- what an accepted call answers beside the mode and the checks
-unfoldable pub outputOf : Supervisor → Request → Output
-outputOf s (opens o) = Nothing
-outputOf s (ticks t) = Ticks (tickOf (s .flight) t .answer)
-outputOf s (reports failed) = Nothing
-outputOf s (commands ev level low) = Nothing
-outputOf s (points l) = Nothing
-outputOf s (zones l) = Nothing
+unfoldable pub outputOf : FlightSupervisor → Legs → Request → Output
+outputOf f l (opens o) = Nothing
+outputOf f l (ticks t) = Ticks (tickOf f l t .answer)
+outputOf f l (reports failed) = Nothing
+outputOf f l (commands ev level low) = Nothing
+outputOf f l (plans p) = Nothing
+
+-- a report is due "after every tick that doesn't say motors off", and after nothing else
+abbrev pub reportDueAfter : Output → Bool
+reportDueAfter Nothing = false
+reportDueAfter (Ticks answer) = dueAfter answer
+
+-- the state after an accepted call
+unfoldable pub afterOf : Supervisor → Request → Supervisor
+afterOf s r =
+    record {
+      flight = flightAfter (s .flight) (legsIn s) r;
+      waypoints = waypointsAfter (s .waypoints) r;
+      opened = isOpening r || s .opened;
+      «report_due» = reportDueAfter (outputOf (s .flight) (legsIn s) r);
+    }
 
 -- "the mode as it is", and "the last two fields as they are"
-unfoldable pub answerOf : Supervisor → ℕ → Output → Answer
-answerOf s refusal out =
+unfoldable pub answerOf : FlightSupervisor → ℕ → Output → Answer
+answerOf f refusal out =
     record {
       refusal = refusal;
-      mode = s .flight .fsm .mode;
+      mode = f .fsm .mode;
       output = out;
-      outstanding = outstandingOf (s .flight .«check_table»);
-      verdict = firstBlockerOf (s .flight .«check_table»);
+      outstanding = outstandingOf (f .«check_table»);
+      verdict = firstBlockerOf (f .«check_table»);
     }
 
 -- "A refusal keeps the state"
 unfoldable pub refusedOf : Supervisor → ℕ → Answered
-refusedOf s refusal = record { supervisor = s; answer = answerOf s refusal Nothing }
+refusedOf s refusal = record { supervisor = s; answer = answerOf (s .flight) refusal Nothing }
 
 unfoldable pub acceptedOf : Supervisor → Output → Answered
-acceptedOf s out = record { supervisor = s; answer = answerOf s 0 out }
+acceptedOf s out = record { supervisor = s; answer = answerOf (s .flight) 0 out }
 
 -- a call: refused with the first refusal that fits, else accepted
 unfoldable pub stepOf : Supervisor → Request → Answered
-stepOf s r = cond (eqb (refusalOf s r) 0) (acceptedOf (afterOf s r) (outputOf s r)) (refusedOf s (refusalOf s r))
+stepOf s r = cond (eqb (refusalOf s r) 0) (acceptedOf (afterOf s r) (outputOf (s .flight) (legsIn s) r)) (refusedOf s (refusalOf s r))
+
+-- ---- a tick, a report or a command: what it leaves of the flight, without the waypoints
+
+-- the refusals that fit these three: 1, 6, 7
+abbrev pub flightRefusal : Bool → Bool → Request → ℕ
+flightRefusal opened due r = cond (not opened) noOpening (cond (not (isReport r) && due) reportDue (cond (isReport r && not due) noReportDue 0))
+
+unfoldable pub keptOf : FlightSupervisor → Bool → ℕ → FlightAnswered
+keptOf f due refusal = record { flight = f; «report_due» = due; answer = answerOf f refusal Nothing }
+
+unfoldable pub movedOf : FlightSupervisor → Bool → Output → FlightAnswered
+movedOf f due out = record { flight = f; «report_due» = due; answer = answerOf f 0 out }
+
+-- reports and commands read no waypoint
+abbrev pub noLegs : Legs
+noLegs = record { here = origin; next = origin }
+
+unfoldable pub flightStepOf : FlightSupervisor → Bool → Bool → Legs → Request → FlightAnswered
+flightStepOf f opened due l r =
+    cond (eqb (flightRefusal opened due r) 0) (movedOf (flightAfter f l r) (reportDueAfter (outputOf f l r)) (outputOf f l r))
+    (keptOf f due (flightRefusal opened due r))
+
+-- the answer with the state's other parts as they were
+abbrev pub besideOf : Supervisor → FlightAnswered → Answered
+besideOf s a =
+    record {
+      supervisor = record { flight = a .flight; waypoints = s .waypoints; opened = s .opened; «report_due» = a .«report_due» };
+      answer = a .answer;
+    }
 
 -- 0 or 1
 abbrev pub flag : Bool → ℕ

@@ -7,6 +7,7 @@ use Rattle.relay_fsm.specs.declared.Mode.the-variants.{Disarmed, Land, Terminat
 use Rattle.relay_fsm.specs.declared.Event.{Event}
 use Rattle.relay_fsm.specs.Mode.{isMode}
 use Rattle.relay_fsm.specs.Fsm.{onOf}
+use Rattle.falcon_guidance.specs.declared.state.Legs.{Legs}
 use Rattle.falcon_guidance.specs.declared.state.Tick.{Tick}
 use Rattle.falcon_failsafe.specs.declared.state.FlightSupervisor.{FlightSupervisor}
 use Rattle.falcon_failsafe.specs.Failsafe.{inFlight}
@@ -27,5 +28,5 @@ anyLedToLand [] = false
 anyLedToLand (g ∷ l) = ledToLand (g .met) (g .event) || anyLedToLand l
 
 -- "It goes through Land if it began in Land or an event that it gave the mode machine led to Land."
-unfoldable pub throughLandOf : FlightSupervisor → Tick → Bool
-throughLandOf f t = isMode (f .fsm .mode) Land || anyLedToLand (givenOf f t)
+unfoldable pub throughLandOf : FlightSupervisor → Legs → Tick → Bool
+throughLandOf f l t = isMode (f .fsm .mode) Land || anyLedToLand (givenOf f l t)

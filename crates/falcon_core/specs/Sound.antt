@@ -24,23 +24,16 @@ use Rattle.falcon_failsafe.specs.declared.state.Opening.{Opening}
 use Rattle.falcon_guidance.specs.declared.state.Tick.{Tick}
 use Rattle.falcon_failsafe.specs.declared.state.FlightSupervisor.{FlightSupervisor}
 use Rattle.falcon_core.specs.declared.state.Supervisor.{Supervisor}
-use Rattle.falcon_core.specs.declared.calls.Output.{Output}
-use Rattle.falcon_core.specs.declared.calls.Output.the-variants.{Nothing, Ticks}
 use Rattle.falcon_guidance.specs.State.{origin, noZone, nowhere, maxWaypoints, maxKeepoutZones}
 use Rattle.falcon_guidance.specs.Mission.{waypointAdmissibleOf}
 use Rattle.falcon_guidance.specs.Zones.{noPlace}
 use Rattle.falcon_failsafe.specs.Failsafe.{tiltRunawayCycles}
-use Rattle.falcon_core.specs.Calls.{Request, opens, ticks, reports, commands, points, zones, dueAfter, stepOf}
+use Rattle.falcon_core.specs.Calls.{Request, Planning, opens, ticks, reports, commands, plans, points, zones, stepOf}
 
 -- the state after a list of calls, first call first
 unfoldable pub runOf : Supervisor → List Request → Supervisor
 runOf s [] = s
 runOf s (r ∷ l) = runOf (stepOf s r .supervisor) l
-
--- a report is due "after every tick that doesn't say motors off", and after nothing else
-abbrev pub reportDueAfter : Output → Bool
-reportDueAfter Nothing = false
-reportDueAfter (Ticks answer) = dueAfter answer
 
 -- ---- an array of which the first `count` places are in use
 
@@ -78,8 +71,8 @@ unfoldable pub countsSoundOf : Mission → Zones → Bool
 countsSoundOf m zs = leb (m .«wp_count») maxWaypoints && leb (zs .«zone_count») maxKeepoutZones
 
 -- "Every point in use is admissible."
-unfoldable pub pointsSoundOf : Config → Mission → Bool
-pointsSoundOf c m = eachBelow (λ i. waypointAdmissibleOf c (getD (m .waypoints) i nowhere)) (m .«wp_count»)
+unfoldable pub pointsSoundOf : Config → List Point → Mission → Bool
+pointsSoundOf c ps m = eachBelow (λ i. waypointAdmissibleOf c (getD ps i nowhere)) (m .«wp_count»)
 
 -- the leg number is below the point count, and 0 for an empty list
 unfoldable pub legSoundOf : Mission → Bool
@@ -106,26 +99,26 @@ abbrev pub unusedSound : {A : Type 0} → (A → Bool) → A → ℕ → List A 
 unusedSound test d size l count = eqb (length l) size && eachBelow (λ i. ltb i count || test (getD l i d)) size
 
 -- there are 16 places for points and 8 for zones, and those beyond the counts are 0
-unfoldable pub unusedSoundOf : Mission → Zones → Bool
-unusedSoundOf m zs =
-    unusedSound zeroPoint nowhere maxWaypoints (m .waypoints) (m .«wp_count»)
+unfoldable pub unusedSoundOf : List Point → Mission → Zones → Bool
+unusedSoundOf ps m zs =
+    unusedSound zeroPoint nowhere maxWaypoints ps (m .«wp_count»)
     && unusedSound zeroZone noPlace maxKeepoutZones (zs .zones) (zs .«zone_count»)
 
 -- all of them, and the battery's: latches equal to the flags shown, charge, used and resistance within their bounds, what one `update` leaves for the next finite, and all zero before a reading
-abbrev pub soundTests : FlightSupervisor → List Bool
-soundTests f =
+abbrev pub soundTests : FlightSupervisor → List Point → List Bool
+soundTests f ps =
     checksSoundOf (f .«check_table»)
     ∷ countsSoundOf (f .mission) (f .zones)
-    ∷ pointsSoundOf (f .config) (f .mission)
+    ∷ pointsSoundOf (f .config) ps (f .mission)
     ∷ legSoundOf (f .mission)
     ∷ tiltSoundOf (f .fsm .mode) (f .counts .«runaway_count»)
     ∷ batterySoundOf (f .battery)
-    ∷ unusedSoundOf (f .mission) (f .zones)
+    ∷ unusedSoundOf ps (f .mission) (f .zones)
     ∷ []
 
 -- every test passes
 unfoldable pub soundOf : Supervisor → Bool
-soundOf s = all (soundTests (s .flight))
+soundOf s = all (soundTests (s .flight) (s .waypoints))
 
 -- ---- the same as records
 
@@ -135,8 +128,8 @@ pub record SoundChecks (k : CheckTable) : Type 0 where
   pub passed-below : k .passed < maskLimit
 
 -- the points in use are admissible by the configuration, the other places are the origin, and the leg is below the count
-pub record SoundMission (c : Config) (m : Mission) : Type 0 where
-  pub places : Tidy (λ p. T (waypointAdmissibleOf c p)) nowhere origin maxWaypoints (m .waypoints) (m .«wp_count»)
+pub record SoundMission (c : Config) (ps : List Point) (m : Mission) : Type 0 where
+  pub places : Tidy (λ p. T (waypointAdmissibleOf c p)) nowhere origin maxWaypoints ps (m .«wp_count»)
   pub leg : m .«wp_index» ≤ m .«wp_count» - 1
 
 -- the zones in use are untested, the other places are empty
@@ -148,10 +141,10 @@ pub record SoundTilt (m : Mode) (n : ℕ) : Type 0 where
   pub at-most : n ≤ tiltRunawayCycles
   pub ended : n ≡ tiltRunawayCycles → m ≡ Terminated
 
--- every part of the flight
-pub record SoundFlight (f : FlightSupervisor) : Type 0 where
+-- every part of the flight, over these waypoints
+pub record SoundFlight (f : FlightSupervisor) (ps : List Point) : Type 0 where
   pub checks : SoundChecks (f .«check_table»)
-  pub mission : SoundMission (f .config) (f .mission)
+  pub mission : SoundMission (f .config) ps (f .mission)
   pub zones : SoundZones (f .zones)
   pub tilt : SoundTilt (f .fsm .mode) (f .counts .«runaway_count»)
   pub battery : SoundBattery (f .battery)
@@ -184,10 +177,10 @@ pub record FitHold (h : Hold) : Type 0 where
   pub rest : Fit (h .«brake_rest_s»)
 
 -- those of a state
-pub record FitFlight (f : FlightSupervisor) : Type 0 where
+pub record FitFlight (f : FlightSupervisor) (ps : List Point) : Type 0 where
   pub config : FitConfig (f .config)
   pub battery : FitBattery (f .battery)
-  pub waypoints : (i : ℕ) → FitPoint (getD (f .mission .waypoints) i nowhere)
+  pub waypoints : (i : ℕ) → FitPoint (getD ps i nowhere)
   pub zones : (i : ℕ) → FitZone (getD (f .zones .zones) i noPlace)
   pub hold : FitHold (f .hold)
 
@@ -203,14 +196,18 @@ pub record FitTick (t : Tick) : Type 0 where
   pub p : FitPoint (t .p)
   pub reading : FitReading (t .reading)
 
+-- those of what the planner asks
+abbrev pub LentPlan : Planning → Type 0
+LentPlan (points l) = (i : ℕ) → Fit (getD l i nan)
+LentPlan (zones l) = (i : ℕ) → Fit (getD l i nan)
+
 -- those of a call that the state keeps: every lent f32 is one
 abbrev pub Lent : Request → Type 0
 Lent (opens o) = FitOpening o
 Lent (ticks t) = FitTick t
 Lent (reports failed) = Unit {0}
 Lent (commands ev level low) = Unit {0}
-Lent (points l) = (i : ℕ) → Fit (getD l i nan)
-Lent (zones l) = (i : ℕ) → Fit (getD l i nan)
+Lent (plans p) = LentPlan p
 
 -- those of a list of calls
 abbrev pub EachLent : List Request → Type 0

@@ -1,6 +1,7 @@
 -- The state with no opening.
 use mathlib.Core.Bool.{false}
 use Rattle.falcon_guidance.specs.State.{zerof, origin}
+use Rattle.falcon_guidance.specs.Mission.{noPoints}
 use Rattle.falcon_failsafe.specs.State.{openedOf}
 use Rattle.falcon_failsafe.specs.declared.state.Opening.{Opening}
 use Rattle.falcon_core.specs.declared.state.Supervisor.{Supervisor}
@@ -20,4 +21,4 @@ zeroOpening =
 
 -- the state with no opening: no answer shows more of it than mode 0, no check outstanding and no blocker
 unfoldable pub unopened : Supervisor
-unopened = record { flight = openedOf zeroOpening; opened = false; «report_due» = false }
+unopened = record { flight = openedOf zeroOpening; waypoints = noPoints; opened = false; «report_due» = false }

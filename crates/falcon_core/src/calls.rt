@@ -1,15 +1,19 @@
 // The calls by lent values. Each takes the state and gives the state after it with its answer.
 ghost use mathlib.Core.Path.{_≡_};
-ghost use Rattle.falcon_core.specs.Calls.{opens, ticks, reports, commands, points, zones, allowedOf, commandedBy, dueAfter, answerOf, refusedOf, acceptedOf};
-ghost use Rattle.falcon_core.specs.Calls.{stepOf, flag, numbersOf};
+ghost use Rattle.falcon_core.specs.Calls.{opens, ticks, reports, commands, plans, points, zones, allowedOf, commandedBy, dueAfter, answerOf, refusedOf, acceptedOf};
+ghost use Rattle.falcon_core.specs.Calls.{stepOf, keptOf, movedOf, noLegs, flightStepOf, flag, numbersOf};
 use crate::state::Supervisor;
 use falcon_failsafe::failsafe::reported;
 use falcon_failsafe::state::FlightSupervisor;
 use falcon_failsafe::state::Opening;
 use falcon_flight::tick::TickAnswer;
 use falcon_flight::tick::tick;
+use falcon_guidance::mission::legs;
 use falcon_guidance::mission::loaded;
+use falcon_guidance::mission::loaded_points;
+use falcon_guidance::mission::no_points;
 use falcon_guidance::mission::tried_admissible;
+use falcon_guidance::state::Legs;
 use falcon_guidance::state::Tick;
 use falcon_guidance::zones::loaded_zones;
 use relay_fsm::Event;
@@ -38,6 +42,13 @@ pub struct Answer {
 // The state after a call, and the answer.
 pub struct Answered {
     pub supervisor: Supervisor,
+    pub answer: Answer,
+}
+
+// What a tick, a report or a command leaves: the flight, whether a report is due, and the answer.
+pub struct FlightAnswered {
+    pub flight: FlightSupervisor,
+    pub report_due: bool,
     pub answer: Answer,
 }
 
@@ -102,13 +113,13 @@ fn number(b: bool) -> u32
     0
 }
 
-// The answer of a state.
-fn answer_of(s: Supervisor, refusal: u32, output: Output) -> Answer
-    ensures { λ r. ⌜ r ≡ answerOf s refusal output ⌝ }
+// The answer of a flight.
+fn answer_of(f: FlightSupervisor, refusal: u32, output: Output) -> Answer
+    ensures { λ r. ⌜ r ≡ answerOf f refusal output ⌝ }
 {
-    let fsm = s.flight.fsm;
+    let fsm = f.fsm;
     let mode = fsm.mode;
-    let table = s.flight.check_table;
+    let table = f.check_table;
     Answer {
         refusal,
         mode,
@@ -122,7 +133,7 @@ fn answer_of(s: Supervisor, refusal: u32, output: Output) -> Answer
 pub fn refused(s: Supervisor, refusal: u32) -> Answered
     ensures { λ r. ⌜ r ≡ refusedOf s refusal ⌝ }
 {
-    let a = answer_of(s, refusal, Output::Nothing);
+    let a = answer_of(s.flight, refusal, Output::Nothing);
     Answered {
         supervisor: s,
         answer: a,
@@ -132,7 +143,7 @@ pub fn refused(s: Supervisor, refusal: u32) -> Answered
 fn accepted(s: Supervisor, output: Output) -> Answered
     ensures { λ r. ⌜ r ≡ acceptedOf s output ⌝ }
 {
-    let a = answer_of(s, Answer::ACCEPTED, output);
+    let a = answer_of(s.flight, Answer::ACCEPTED, output);
     Answered {
         supervisor: s,
         answer: a,
@@ -181,6 +192,88 @@ fn commanded(f: FlightSupervisor, ev: Event, level: bool, throttle_low: bool) ->
     next
 }
 
+// A refusal keeps the flight, and whether a report is due.
+fn kept(f: FlightSupervisor, due: bool, refusal: u32) -> FlightAnswered
+    ensures { λ r. ⌜ r ≡ keptOf f due refusal ⌝ }
+{
+    let a = answer_of(f, refusal, Output::Nothing);
+    FlightAnswered {
+        flight: f,
+        report_due: due,
+        answer: a,
+    }
+}
+
+fn moved(f: FlightSupervisor, due: bool, output: Output) -> FlightAnswered
+    ensures { λ r. ⌜ r ≡ movedOf f due output ⌝ }
+{
+    let a = answer_of(f, Answer::ACCEPTED, output);
+    FlightAnswered {
+        flight: f,
+        report_due: due,
+        answer: a,
+    }
+}
+
+// One tick of the flight core, from the flight and the waypoints of the active leg and of the next.
+pub fn flight_tick(
+    f: FlightSupervisor,
+    opened: bool,
+    due: bool,
+    legs: Legs,
+    t: Tick,
+) -> FlightAnswered
+    ensures { λ r. ⌜ r ≡ flightStepOf f opened due legs (ticks t) ⌝ }
+{
+    if !opened {
+        return kept(f, due, Answer::NO_OPENING);
+    }
+    if due {
+        return kept(f, due, Answer::REPORT_DUE);
+    }
+    let ticked = tick(f, legs, t);
+    let flight = ticked.flight;
+    let answer = ticked.answer;
+    moved(flight, due_after(answer), Output::Ticks(answer))
+}
+
+// Whether a motor failed while the core ran the latest tick, from the flight.
+pub fn flight_report(f: FlightSupervisor, opened: bool, due: bool, failed: bool) -> FlightAnswered
+    ensures { λ r. ⌜ r ≡ flightStepOf f opened due noLegs (reports failed) ⌝ }
+{
+    if !opened {
+        return kept(f, due, Answer::NO_OPENING);
+    }
+    if !due {
+        return kept(f, due, Answer::NO_REPORT_DUE);
+    }
+    moved(reported(f, failed), false, Output::Nothing)
+}
+
+// A command of the pilot, from the flight.
+pub fn flight_command(
+    f: FlightSupervisor,
+    opened: bool,
+    due: bool,
+    ev: Event,
+    level: bool,
+    throttle_low: bool,
+) -> FlightAnswered
+    ensures { λ r. ⌜ r ≡ flightStepOf f opened due noLegs (commands ev level «throttle_low») ⌝ }
+{
+    if !opened {
+        return kept(f, due, Answer::NO_OPENING);
+    }
+    if due {
+        return kept(f, due, Answer::REPORT_DUE);
+    }
+    moved(
+        commanded(f, ev, level, throttle_low),
+        false,
+        Output::Nothing,
+    )
+}
+
 impl Supervisor {
     // Opens the supervisor anew; taken at any time.
     pub fn opening(self, o: Opening) -> Answered
@@ -189,8 +282,10 @@ impl Supervisor {
         if (o.required >= CheckTable::MASK_LIMIT) | (o.passed >= CheckTable::MASK_LIMIT) {
             return refused(self, Answer::OUT_OF_RANGE);
         }
+        let waypoints = no_points();
         let next = Supervisor {
             flight: FlightSupervisor::opened(o),
+            waypoints,
             opened: true,
             report_due: false,
         };
@@ -201,62 +296,69 @@ impl Supervisor {
     pub fn tick(self, t: Tick) -> Answered
         ensures { λ r. ⌜ r ≡ stepOf self (ticks t) ⌝ }
     {
-        if !self.opened {
-            return refused(self, Answer::NO_OPENING);
-        }
-        if self.report_due {
-            return refused(self, Answer::REPORT_DUE);
-        }
-        let ticked = tick(self.flight, t);
+        let config = self.flight.config;
+        let mission = self.flight.mission;
+        let waypoints = self.waypoints;
+        let ticked = flight_tick(
+            self.flight,
+            self.opened,
+            self.report_due,
+            legs(config, waypoints, mission),
+            t,
+        );
         let flight = ticked.flight;
         let answer = ticked.answer;
-        let next = Supervisor {
-            flight,
-            opened: self.opened,
-            report_due: due_after(answer),
-        };
-        accepted(next, Output::Ticks(answer))
+        let mut next = self;
+        next.flight = flight;
+        next.report_due = ticked.report_due;
+        Answered {
+            supervisor: next,
+            answer,
+        }
     }
 
     // Whether a motor failed while the core ran the latest tick.
     pub fn report(self, failed: bool) -> Answered
         ensures { λ r. ⌜ r ≡ stepOf self (reports failed) ⌝ }
     {
-        if !self.opened {
-            return refused(self, Answer::NO_OPENING);
+        let told = flight_report(self.flight, self.opened, self.report_due, failed);
+        let flight = told.flight;
+        let answer = told.answer;
+        let mut next = self;
+        next.flight = flight;
+        next.report_due = told.report_due;
+        Answered {
+            supervisor: next,
+            answer,
         }
-        if !self.report_due {
-            return refused(self, Answer::NO_REPORT_DUE);
-        }
-        let next = Supervisor {
-            flight: reported(self.flight, failed),
-            opened: self.opened,
-            report_due: false,
-        };
-        accepted(next, Output::Nothing)
     }
 
     // A command of the pilot.
     pub fn command(self, ev: Event, level: bool, throttle_low: bool) -> Answered
         ensures { λ r. ⌜ r ≡ stepOf self (commands ev level «throttle_low») ⌝ }
     {
-        if !self.opened {
-            return refused(self, Answer::NO_OPENING);
+        let told = flight_command(
+            self.flight,
+            self.opened,
+            self.report_due,
+            ev,
+            level,
+            throttle_low,
+        );
+        let flight = told.flight;
+        let answer = told.answer;
+        let mut next = self;
+        next.flight = flight;
+        next.report_due = told.report_due;
+        Answered {
+            supervisor: next,
+            answer,
         }
-        if self.report_due {
-            return refused(self, Answer::REPORT_DUE);
-        }
-        let next = Supervisor {
-            flight: commanded(self.flight, ev, level, throttle_low),
-            opened: self.opened,
-            report_due: self.report_due,
-        };
-        accepted(next, Output::Nothing)
     }
 
     // A new list of waypoints, three numbers each; one bad point refuses the list and the old one stays.
     pub fn set_mission_waypoints(self, lent: &[f32]) -> Answered
-        ensures answered { λ r. ⌜ r ≡ stepOf self (points (now (lent .entry))) ⌝ }
+        ensures answered { λ r. ⌜ r ≡ stepOf self (plans (points (now (lent .entry)))) ⌝ }
         ensures unchanged { λ _. ⌜ now (lent .exit) ≡ now (lent .entry) ⌝ }
     {
         if lent.len() % 3 != 0 {
@@ -273,16 +375,18 @@ impl Supervisor {
             return refused(self, Answer::INADMISSIBLE);
         }
         let mission = loaded(lent);
+        let waypoints = loaded_points(lent);
         let mut flight = self.flight;
         flight.mission = mission;
         let mut next = self;
         next.flight = flight;
+        next.waypoints = waypoints;
         accepted(next, Output::Nothing)
     }
 
     // The keep-out zones, four numbers each: the first eight are kept, untested.
     pub fn set_keepout_zones(self, lent: &[f32]) -> Answered
-        ensures answered { λ r. ⌜ r ≡ stepOf self (zones (now (lent .entry))) ⌝ }
+        ensures answered { λ r. ⌜ r ≡ stepOf self (plans (zones (now (lent .entry)))) ⌝ }
         ensures unchanged { λ _. ⌜ now (lent .exit) ≡ now (lent .entry) ⌝ }
     {
         if lent.len() % 4 != 0 {

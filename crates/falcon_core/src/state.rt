@@ -3,11 +3,13 @@ ghost use mathlib.Core.Path.{_≡_};
 ghost use Rattle.falcon_core.specs.State.{unopened};
 use falcon_failsafe::state::FlightSupervisor;
 use falcon_failsafe::state::Opening;
+use falcon_guidance::mission::no_points;
 use falcon_guidance::state::Point;
 
-// The supervisor: the flight, whether there was an opening, and whether a report is due.
+// The supervisor: the flight, the waypoints, whether there was an opening, and whether a report is due. Unused places hold the origin.
 pub struct Supervisor {
     pub flight: FlightSupervisor,
+    pub waypoints: [Point; 16],
     pub opened: bool,
     pub report_due: bool,
 }
@@ -26,8 +28,10 @@ impl Supervisor {
             passed: 0,
             calibration_configured: false,
         });
+        let waypoints = no_points();
         Supervisor {
             flight,
+            waypoints,
             opened: false,
             report_due: false,
         }

@@ -11,7 +11,7 @@ use Rattle.relay_preflight.specs.Table.{newOf, legacyPassedOf}
 use Rattle.falcon_guidance.specs.declared.state.Mission.{Mission}
 use Rattle.falcon_guidance.specs.declared.state.Zones.{Zones}
 use Rattle.falcon_guidance.specs.declared.state.Hold.{Hold}
-use Rattle.falcon_guidance.specs.State.{zerof, origin, noZone, maxWaypoints, maxKeepoutZones}
+use Rattle.falcon_guidance.specs.State.{zerof, noZone, maxKeepoutZones}
 use Rattle.falcon_failsafe.specs.declared.state.FailsafeState.{FailsafeState}
 use Rattle.falcon_failsafe.specs.declared.state.Opening.{Opening}
 use Rattle.falcon_failsafe.specs.declared.state.FlightSupervisor.{FlightSupervisor}
@@ -30,7 +30,7 @@ openedOf o =
           };
       fsm = record { mode = Disarmed };
       battery = openedBatteryOf (forOpeningVoltsOf (o .«low_batt_v»));
-      mission = record { waypoints = replicate maxWaypoints origin; «wp_count» = 0; «wp_index» = 0 };
+      mission = record { «wp_count» = 0; «wp_index» = 0 };
       zones = record { zones = replicate maxKeepoutZones noZone; «zone_count» = 0 };
       hold =
           record {

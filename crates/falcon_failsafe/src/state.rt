@@ -65,9 +65,7 @@ impl FlightSupervisor {
             low_batt_v: o.low_batt_v,
             calibration_configured: o.calibration_configured,
         };
-        let point = Point::origin();
         let zone = Zone::none();
-        let waypoints = [point; 16];
         let places = [zone; 8];
         let hold_xy = Horizontal {
             x: o.home.x,
@@ -79,7 +77,6 @@ impl FlightSupervisor {
             fsm: FlightFsm::new(),
             battery: Battery::new(BattConfig::for_opening_volts(o.low_batt_v)),
             mission: Mission {
-                waypoints,
                 wp_count: 0,
                 wp_index: 0,
             },

@@ -1,4 +1,5 @@
 -- The tick over its parts: each paragraph leaves the flight with a few parts changed, and the parts in their order are the tick.
+use Prim.Native.Nat.{ℕ}
 use mathlib.Core.Bool.{Bool, true, false}
 use mathlib.Core.Path.{_≡_, refl, sym, ap, _∙_}
 use lib.Ieee.{Float, lt}
@@ -7,6 +8,8 @@ use Rattle.relay_batt.specs.Battery.{updateOf}
 use Rattle.relay_preflight.specs.declared.CheckTable.{CheckTable}
 use Rattle.falcon_guidance.specs.declared.state.Hold.{Hold}
 use Rattle.falcon_guidance.specs.declared.state.Mission.{Mission}
+use Rattle.falcon_guidance.specs.declared.state.Legs.{Legs}
+use Rattle.falcon_guidance.specs.declared.state.Point.{Point}
 use Rattle.falcon_guidance.specs.declared.state.Tick.{Tick}
 use Rattle.falcon_guidance.specs.Geometry.{distanceOf}
 use Rattle.falcon_hold.specs.Hold.{heldOf}
@@ -23,7 +26,7 @@ use Rattle.falcon_flight.specs.declared.tick.Ticked.{Ticked}
 use Rattle.falcon_flight.specs.Milestone.{heightOf, highOf, nearHomeOf, nearGroundOf, arrivedOf, legOf, milestoneGives, milestoneBy, milestoneIn, milestoneOf}
 use Rattle.falcon_flight.specs.Setpoint.{landingOf, setpointOf, commandedOf, motorsOffOf}
 use Rattle.falcon_flight.specs.Tick.{checkedOf, poweredOf, telemetryOf, sensedOf, afterBreach, afterRunaway, afterWind, afterMilestone}
-use Rattle.falcon_flight.specs.Tick.{holdingOf, answerIn, answeredOf, tickOf}
+use Rattle.falcon_flight.specs.Tick.{holdingOf, waypointAfter, answerIn, answeredOf, endedOf, tickOf}
 
 module _ (f : FlightSupervisor) (t : Tick) where
   breached-parts : breachedOf f t ≡ withFailsafes f (breachedIn (failsafeStateOf f) (breachOf f t) (f .battery .state .critical))
@@ -51,30 +54,31 @@ module _ (f : FlightSupervisor) (t : Tick) where
 
   -- the mission with this leg
   abbrev leg : Reached → Mission
-  leg r = record { waypoints = f .mission .waypoints; «wp_count» = f .mission .«wp_count»; «wp_index» = r .«wp_index» }
+  leg r = record { «wp_count» = f .mission .«wp_count»; «wp_index» = r .«wp_index» }
 
   milestone-parts :
-      milestoneOf f t
-      ≡ let r = milestoneIn (f .fsm .mode) (f .config) (f .mission) (distanceOf (t .p) (f .config .home)) (t .p) in
+      (l : Legs)
+      → milestoneOf f l t
+      ≡ let r = milestoneIn (f .fsm .mode) (f .config) (l .here) (f .mission) (distanceOf (t .p) (f .config .home)) (t .p) in
       withMode (withMission f (leg r)) (r .mode) (f .«rtl_latched»)
   unfolding milestoneOf milestoneGives legOf highOf nearHomeOf nearGroundOf heightOf arrivedOf milestoneBy milestoneIn
-  milestone-parts = refl
+  milestone-parts l = refl
 
   answered-by :
-      (off : Bool)
+      (p : Point) (off : Bool)
       → motorsOffOf (f .fsm .mode) ≡ off
-      → answeredOf f t
+      → answeredOf f p t
       ≡ record {
         flight = withMotors f off;
         answer =
-            answerIn (f .fsm .mode) (f .config) (f .mission) (f .zones) (f .hold .«hold_xy») (distanceOf (t .p) (f .config .home)) (f .«motors_were_off») t;
+            answerIn (f .fsm .mode) (f .config) p (f .zones) (f .hold .«hold_xy») (distanceOf (t .p) (f .config .home)) (f .«motors_were_off») t;
       }
   unfolding answeredOf answerIn commandedOf landingOf setpointOf
-  answered-by true e = rw e
-  answered-by false e = rw e
+  answered-by p true e = rw e
+  answered-by p false e = rw e
 
 -- the flight after the paragraphs before the first event, after the failsafes, after the milestone, and after the hold
-module _ (f : FlightSupervisor) (t : Tick) where
+module _ (f : FlightSupervisor) (l : Legs) (t : Tick) where
   abbrev home : Float
   home = distanceOf (t .p) (f .config .home)
 
@@ -97,7 +101,7 @@ module _ (f : FlightSupervisor) (t : Tick) where
   guarded = failsafesIn (failsafeStateOf sensed) battery outside t
 
   abbrev reached : Reached
-  reached = milestoneIn (guarded .mode) (f .config) (f .mission) home (t .p)
+  reached = milestoneIn (guarded .mode) (f .config) (l .here) (f .mission) home (t .p)
 
   abbrev hold : Hold
   hold = heldOf (f .hold) (reached .mode) t
@@ -105,8 +109,14 @@ module _ (f : FlightSupervisor) (t : Tick) where
   abbrev mission : Mission
   mission = leg f t reached
 
+  abbrev passed : FlightSupervisor
+  passed = withMode (withMission (withFailsafes sensed guarded) mission) (reached .mode) (guarded .«rtl_latched»)
+
   abbrev flight : FlightSupervisor
-  flight = withHold (withMode (withMission (withFailsafes sensed guarded) mission) (reached .mode) (guarded .«rtl_latched»)) hold
+  flight = withHold passed hold
+
+  abbrev waypoint : Point
+  waypoint = waypointAfter l (f .mission .«wp_index») (reached .«wp_index»)
 
   sensed-parts : sensedOf f t ≡ sensed
   unfolding sensedOf telemetryOf poweredOf checkedOf clearedOf updatePreflightOf readinessRowsOf updatePreflightIn outsideGeofenceOf
@@ -116,40 +126,48 @@ module _ (f : FlightSupervisor) (t : Tick) where
   unfolding outsideGeofenceOf
   guarded-parts = failsafes-parts sensed t
 
-  held-parts : holdingOf (milestoneOf (withFailsafes sensed guarded) t) t ≡ flight
-  unfolding holdingOf
-  held-parts = ap (λ (g : FlightSupervisor). withHold g (heldOf (g .hold) (g .fsm .mode) t)) (milestone-parts (withFailsafes sensed guarded) t)
+  passed-parts : milestoneOf (withFailsafes sensed guarded) l t ≡ passed
+  passed-parts = milestone-parts (withFailsafes sensed guarded) t l
+
+  -- the paragraphs after these
+  abbrev index : ℕ
+  index = f .mission .«wp_index»
+
+  ended-parts : endedOf index passed l t ≡ answeredOf flight waypoint t
+  unfolding endedOf holdingOf
+  ended-parts = refl
 
   assembled :
       _≡_ {A = Ticked}
       (record {
         flight = withMotors flight (motorsOffOf (reached .mode));
-        answer = answerIn (reached .mode) (f .config) mission (f .zones) (hold .«hold_xy») home (f .«motors_were_off») t;
+        answer = answerIn (reached .mode) (f .config) waypoint (f .zones) (hold .«hold_xy») home (f .«motors_were_off») t;
       })
-      (tickOf f t)
+      (tickOf f l t)
   unfolding tickOf afterMilestone afterWind afterRunaway afterBreach
   assembled =
       sym
-      (ap (λ (g : FlightSupervisor). answeredOf (holdingOf (milestoneOf (windOf (runawayOf (breachedOf g t) t) t) t) t) t) sensed-parts
-      ∙ (ap (λ (g : FlightSupervisor). answeredOf (holdingOf (milestoneOf g t) t) t) guarded-parts
-      ∙ (ap (λ (g : FlightSupervisor). answeredOf g t) held-parts ∙ answered-by flight t _ refl)))
+      (ap (λ (g : FlightSupervisor). endedOf index (milestoneOf (windOf (runawayOf (breachedOf g t) t) t) l t) l t) sensed-parts
+      ∙ (ap (λ (g : FlightSupervisor). endedOf index (milestoneOf g l t) l t) guarded-parts
+      ∙ (ap (λ (g : FlightSupervisor). endedOf index g l t) passed-parts ∙ (ended-parts ∙ answered-by flight t waypoint _ refl))))
 
 -- the facts of the calls, put together
 pub joined :
-    (f : FlightSupervisor) (t : Tick)
+    (f : FlightSupervisor) (l : Legs) (t : Tick)
     {home : Float} {latched : Bool} {battery : Battery} {checked table : CheckTable} {guarded : FailsafeState} {reached : Reached} {hold : Hold}
-    {off : Bool} {answer : TickAnswer}
+    {off : Bool} {waypoint : Point} {answer : TickAnswer}
     → home ≡ distanceOf (t .p) (f .config .home)
     → latched ≡ clearedLatch (f .fsm .mode) (f .«rtl_latched»)
     → battery ≡ updateOf (f .battery) (t .dt) (t .reading)
     → checked ≡ updatePreflightIn (f .«check_table») (f .config) (f .battery) latched (lt (f .config .«fence_radius») home) t
     → guarded
     ≡ failsafesIn (record { mode = f .fsm .mode; counts = f .counts; «rtl_latched» = latched }) battery (lt (f .config .«fence_radius») home) t
-    → reached ≡ milestoneIn (guarded .mode) (f .config) (f .mission) home (t .p)
+    → reached ≡ milestoneIn (guarded .mode) (f .config) (l .here) (f .mission) home (t .p)
     → hold ≡ heldOf (f .hold) (reached .mode) t
     → table ≡ escTelemetryOf checked (t .«motor_rpm»)
     → off ≡ motorsOffOf (reached .mode)
-    → answer ≡ answerIn (reached .mode) (f .config) (leg f t reached) (f .zones) (hold .«hold_xy») home (f .«motors_were_off») t
+    → waypoint ≡ waypointAfter l (f .mission .«wp_index») (reached .«wp_index»)
+    → answer ≡ answerIn (reached .mode) (f .config) waypoint (f .zones) (hold .«hold_xy») home (f .«motors_were_off») t
     → _≡_ {A = Ticked}
     (record {
       flight =
@@ -167,6 +185,6 @@ pub joined :
           };
       answer = answer;
     })
-    (tickOf f t)
-joined f t home latched battery checked guarded reached hold table off answer =
-    simp (answer, off, table, hold, reached, guarded, checked, battery, latched, home) (assembled f t)
+    (tickOf f l t)
+joined f l t home latched battery checked guarded reached hold table off waypoint answer =
+    simp (answer, waypoint, off, table, hold, reached, guarded, checked, battery, latched, home) (assembled f l t)

@@ -1,2 +1,4 @@
 pub mod Assembled
 pub mod Milestones
+pub mod Flown
+pub mod Further

@@ -7,6 +7,7 @@ use Rattle.relay_fsm.specs.declared.Mode.the-variants.{Disarmed, Armed, Takeoff
 use Rattle.relay_fsm.specs.declared.Event.{Event}
 use Rattle.relay_fsm.specs.declared.Event.the-variants.{ReachedAltitude, ReachedHome, Touchdown, RequestRtl}
 use Rattle.relay_fsm.specs.Fsm.{onOf}
+use Rattle.falcon_guidance.specs.declared.state.Legs.{Legs}
 use Rattle.falcon_guidance.specs.declared.state.Tick.{Tick}
 use Rattle.falcon_failsafe.specs.declared.state.FlightSupervisor.{FlightSupervisor}
 use Rattle.falcon_failsafe.specs.Failsafe.{inFlight, modeAfter}
@@ -39,6 +40,6 @@ touchdown-by Rtl high home ground arrived more h = cc (given-by home ReachedHome
 touchdown-by Terminated high home ground arrived more h = cc
 
 -- a touchdown is told only below 0.15
-pub touchdown-low : (f : FlightSupervisor) (t : Tick) → milestoneGives f t ≡ some Touchdown → nearGroundOf t ≡ true
+pub touchdown-low : (f : FlightSupervisor) (l : Legs) (t : Tick) → milestoneGives f l t ≡ some Touchdown → nearGroundOf t ≡ true
 unfolding milestoneGives
-touchdown-low f t h = touchdown-by (f .fsm .mode) _ _ (nearGroundOf t) _ _ h
+touchdown-low f l t h = touchdown-by (f .fsm .mode) _ _ (nearGroundOf t) _ _ h

@@ -15,10 +15,10 @@ use Rattle.falcon_guidance.specs.declared.state.Point.{Point}
 use Rattle.falcon_guidance.specs.declared.state.Config.{Config}
 use Rattle.falcon_guidance.specs.declared.state.Tick.{Tick}
 use Rattle.falcon_guidance.specs.declared.state.Mission.{Mission as MissionState}
+use Rattle.falcon_guidance.specs.declared.state.Legs.{Legs}
 use Rattle.falcon_failsafe.specs.declared.state.FlightSupervisor.{FlightSupervisor}
 use Rattle.falcon_failsafe.specs.State.{withMode, withMission}
 use Rattle.falcon_guidance.specs.Geometry.{distanceOf}
-use Rattle.falcon_guidance.specs.Mission.{currentWaypointOf}
 use Rattle.falcon_failsafe.specs.Failsafe.{inFlight, modeAfter}
 use Rattle.falcon_flight.specs.declared.milestone.Reached.{Reached}
 
@@ -68,12 +68,12 @@ distance3Of p q =
     let dz = sub binary32 (p .z) (q .z) in
     root (add binary32 (add binary32 (mul binary32 dx dx) (mul binary32 dy dy)) (mul binary32 dz dz))
 
--- the current waypoint is nearer than 1.2
-abbrev pub arrivedAt : Config → MissionState → Point → Bool
-arrivedAt c m p = lt (distance3Of p (currentWaypointOf c m)) waypointRadius
+-- the active leg's waypoint is nearer than 1.2
+abbrev pub arrivedAt : Point → Point → Bool
+arrivedAt here p = lt (distance3Of p here) waypointRadius
 
-unfoldable pub arrivedOf : FlightSupervisor → Tick → Bool
-arrivedOf f t = arrivedAt (f .config) (f .mission) (t .p)
+unfoldable pub arrivedOf : Legs → Tick → Bool
+arrivedOf l t = arrivedAt (l .here) (t .p)
 
 -- a further leg follows the active one
 abbrev pub moreOf : MissionState → Bool
@@ -90,38 +90,38 @@ milestoneEvent Land high home ground arrived more = cond ground (some Touchdown)
 milestoneEvent Rtl high home ground arrived more = cond home (some ReachedHome) none
 milestoneEvent Terminated high home ground arrived more = none
 
-unfoldable pub milestoneGives : FlightSupervisor → Tick → Option Event
-milestoneGives f t =
-    milestoneEvent (f .fsm .mode) (highOf (f .config) t) (nearHomeOf (f .config) t) (nearGroundOf t) (arrivedOf f t) (moreOf (f .mission))
+unfoldable pub milestoneGives : FlightSupervisor → Legs → Tick → Option Event
+milestoneGives f l t =
+    milestoneEvent (f .fsm .mode) (highOf (f .config) t) (nearHomeOf (f .config) t) (nearGroundOf t) (arrivedOf l t) (moreOf (f .mission))
 
 -- the leg: one further in Mission where the waypoint is reached and another follows
 abbrev pub legIn : Mode → Bool → MissionState → ℕ
 legIn m arrived s = cond (isMode m Mission && arrived && moreOf s) (s .«wp_index» + 1) (s .«wp_index»)
 
-unfoldable pub legOf : FlightSupervisor → Tick → ℕ
-legOf f t = legIn (f .fsm .mode) (arrivedOf f t) (f .mission)
+unfoldable pub legOf : FlightSupervisor → Legs → Tick → ℕ
+legOf f l t = legIn (f .fsm .mode) (arrivedOf l t) (f .mission)
 
 -- what the milestone changes: the mode and the leg
-unfoldable pub milestoneBy : Mode → Config → MissionState → Bool → Bool → Bool → Point → Reached
-milestoneBy m c s high home ground p =
-    record { mode = modeAfter m (milestoneEvent m high home ground (arrivedAt c s p) (moreOf s)); «wp_index» = legIn m (arrivedAt c s p) s }
+unfoldable pub milestoneBy : Mode → Point → MissionState → Bool → Bool → Bool → Point → Reached
+milestoneBy m here s high home ground p =
+    record { mode = modeAfter m (milestoneEvent m high home ground (arrivedAt here p) (moreOf s)); «wp_index» = legIn m (arrivedAt here p) s }
 
 -- at this distance from home and this point
-unfoldable pub milestoneIn : Mode → Config → MissionState → Float → Point → Reached
-milestoneIn m c s home p =
-    let height = neg (p .z) in milestoneBy m c s (highAt (c .«cruise_alt») height) (nearHomeAt home) (nearGroundAt height) p
+unfoldable pub milestoneIn : Mode → Config → Point → MissionState → Float → Point → Reached
+milestoneIn m c here s home p =
+    let height = neg (p .z) in milestoneBy m here s (highAt (c .«cruise_alt») height) (nearHomeAt home) (nearGroundAt height) p
 
 -- a waypoint reached in Mission: the next leg, or the return after the last
 unfoldable pub advancedOf : FlightSupervisor → FlightSupervisor
 advancedOf f =
     cond (moreOf (f .mission))
     (withMission f
-    (record { waypoints = f .mission .waypoints; «wp_count» = f .mission .«wp_count»; «wp_index» = f .mission .«wp_index» + 1 }))
+    (record { «wp_count» = f .mission .«wp_count»; «wp_index» = f .mission .«wp_index» + 1 }))
     (withMode f (onOf (f .fsm .mode) RequestRtl inFlight) (f .«rtl_latched»))
 
 -- the milestone paragraph
-unfoldable pub milestoneOf : FlightSupervisor → Tick → FlightSupervisor
-milestoneOf f t =
+unfoldable pub milestoneOf : FlightSupervisor → Legs → Tick → FlightSupervisor
+milestoneOf f l t =
     withMode
-    (withMission f (record { waypoints = f .mission .waypoints; «wp_count» = f .mission .«wp_count»; «wp_index» = legOf f t }))
-    (modeAfter (f .fsm .mode) (milestoneGives f t)) (f .«rtl_latched»)
+    (withMission f (record { «wp_count» = f .mission .«wp_count»; «wp_index» = legOf f l t }))
+    (modeAfter (f .fsm .mode) (milestoneGives f l t)) (f .«rtl_latched»)

@@ -10,11 +10,9 @@ use Rattle.falcon_guidance.specs.declared.state.Config.{Config}
 use Rattle.falcon_guidance.specs.declared.state.Horizontal.{Horizontal}
 use Rattle.falcon_guidance.specs.declared.state.Zones.{Zones}
 use Rattle.falcon_guidance.specs.declared.state.Tick.{Tick}
-use Rattle.falcon_guidance.specs.declared.state.Mission.{Mission as MissionState}
 use Rattle.falcon_failsafe.specs.declared.state.FlightSupervisor.{FlightSupervisor}
 use Rattle.falcon_guidance.specs.State.{pointOf}
 use Rattle.falcon_guidance.specs.Geometry.{distanceOf}
-use Rattle.falcon_guidance.specs.Mission.{currentWaypointOf}
 use Rattle.falcon_guidance.specs.Zones.{avoidOf}
 use Rattle.falcon_hold.specs.Hold.{horizSpeedOf}
 
@@ -36,26 +34,26 @@ landingOf f t = landingIn (f .fsm .mode) (t .«failed_motor») (horizSpeedOf t) 
 abbrev pub cruiseOver : Config → Float → Float → Point
 cruiseOver c x y = pointOf x y (neg (c .«cruise_alt»))
 
--- `mode → setpoint`, from the mission, the hold point, the vehicle's point and whether a motor failed
-abbrev pub setpointAt : Mode → Config → MissionState → Horizontal → Point → Bool → Point
-setpointAt Disarmed c s hold p failed = p
-setpointAt Armed c s hold p failed = p
-setpointAt Takeoff c s hold p failed = cruiseOver c (hold .x) (hold .y)
-setpointAt Loiter c s hold p failed = cruiseOver c (hold .x) (hold .y)
-setpointAt Mission c s hold p failed = currentWaypointOf c s
-setpointAt Land c s hold p failed = cond failed (cruiseOver c (p .x) (p .y)) (cruiseOver c (c .home .x) (c .home .y))
-setpointAt Rtl c s hold p failed = cruiseOver c (c .home .x) (c .home .y)
-setpointAt Terminated c s hold p failed = p
+-- `mode → setpoint`, from the active leg's waypoint, the hold point, the vehicle's point and whether a motor failed
+abbrev pub setpointAt : Mode → Config → Point → Horizontal → Point → Bool → Point
+setpointAt Disarmed c leg hold p failed = p
+setpointAt Armed c leg hold p failed = p
+setpointAt Takeoff c leg hold p failed = cruiseOver c (hold .x) (hold .y)
+setpointAt Loiter c leg hold p failed = cruiseOver c (hold .x) (hold .y)
+setpointAt Mission c leg hold p failed = leg
+setpointAt Land c leg hold p failed = cond failed (cruiseOver c (p .x) (p .y)) (cruiseOver c (c .home .x) (c .home .y))
+setpointAt Rtl c leg hold p failed = cruiseOver c (c .home .x) (c .home .y)
+setpointAt Terminated c leg hold p failed = p
 
-unfoldable pub setpointOf : FlightSupervisor → Tick → Point
-setpointOf f t = setpointAt (f .fsm .mode) (f .config) (f .mission) (f .hold .«hold_xy») (t .p) (t .«failed_motor»)
+unfoldable pub setpointOf : FlightSupervisor → Point → Tick → Point
+setpointOf f leg t = setpointAt (f .fsm .mode) (f .config) leg (f .hold .«hold_xy») (t .p) (t .«failed_motor»)
 
 -- the setpoint after `avoid`, which is skipped while landing
 abbrev pub commandedIn : Zones → Bool → Point → Point → Point
 commandedIn z landing p sp = cond (ltb 0 (z .«zone_count») && not landing) (avoidOf z p sp) sp
 
-unfoldable pub commandedOf : FlightSupervisor → Tick → Point
-commandedOf f t = commandedIn (f .zones) (landingOf f t) (t .p) (setpointOf f t)
+unfoldable pub commandedOf : FlightSupervisor → Point → Tick → Point
+commandedOf f leg t = commandedIn (f .zones) (landingOf f t) (t .p) (setpointOf f leg t)
 
 -- the modes that command motors off
 abbrev pub motorsOffOf : Mode → Bool

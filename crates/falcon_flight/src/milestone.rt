@@ -6,7 +6,6 @@ ghost use lib.Dec.{ltb};
 ghost use Rattle.falcon_flight.specs.Milestone.{highAt, nearHomeAt, nearGroundAt, distance3Of, arrivedAt, milestoneBy, milestoneIn};
 use falcon_failsafe::failsafe::in_flight;
 use falcon_failsafe::failsafe::on_if;
-use falcon_guidance::mission::current_waypoint;
 use falcon_guidance::state::Config;
 use falcon_guidance::state::Mission;
 use falcon_guidance::state::Point;
@@ -52,11 +51,11 @@ fn distance3(p: Point, q: Point) -> f32
     sqrtf(dx * dx + dy * dy + dz * dz)
 }
 
-// The current waypoint is reached.
-fn arrived(c: Config, m: Mission, p: Point) -> bool
-    ensures { λ r. ⌜ r ≡ arrivedAt c m p ⌝ }
+// The active leg's waypoint is reached.
+fn arrived(here: Point, p: Point) -> bool
+    ensures { λ r. ⌜ r ≡ arrivedAt here p ⌝ }
 {
-    distance3(p, current_waypoint(c, m)) < Point::WAYPOINT_RADIUS
+    distance3(p, here) < Point::WAYPOINT_RADIUS
 }
 
 // A further leg follows.
@@ -82,14 +81,14 @@ fn leg_after(index: u32, count: u32) -> u32
 // The milestone of the mode, by its tests.
 fn milestone_by(
     mode: Mode,
-    c: Config,
+    here: Point,
     m: Mission,
     high: bool,
     home: bool,
     ground: bool,
     p: Point,
 ) -> Reached
-    ensures { λ r. ⌜ r ≡ milestoneBy mode c m high home ground p ⌝ }
+    ensures { λ r. ⌜ r ≡ milestoneBy mode here m high home ground p ⌝ }
 {
     let wp_index = m.wp_index;
     match mode {
@@ -106,7 +105,7 @@ fn milestone_by(
             wp_index,
         },
         Mode::Mission => {
-            if arrived(c, m, p) {
+            if arrived(here, p) {
                 return Reached {
                     mode: on_if(
                         mode,
@@ -127,13 +126,20 @@ fn milestone_by(
 }
 
 // The milestone, at this distance from home.
-pub(crate) fn milestone(mode: Mode, c: Config, m: Mission, home: f32, p: Point) -> Reached
-    ensures { λ r. ⌜ r ≡ milestoneIn mode c m home p ⌝ }
+pub(crate) fn milestone(
+    mode: Mode,
+    c: Config,
+    here: Point,
+    m: Mission,
+    home: f32,
+    p: Point,
+) -> Reached
+    ensures { λ r. ⌜ r ≡ milestoneIn mode c here m home p ⌝ }
 {
     let height = -p.z;
     milestone_by(
         mode,
-        c,
+        here,
         m,
         high(c.cruise_alt, height),
         near_home(home),

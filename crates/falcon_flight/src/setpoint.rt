@@ -2,10 +2,8 @@
 ghost use mathlib.Core.Path.{_≡_};
 ghost use Rattle.falcon_hold.specs.Hold.{horizSpeedOf};
 ghost use Rattle.falcon_flight.specs.Setpoint.{landingIn, cruiseOver, setpointAt, commandedIn, motorsOffOf};
-use falcon_guidance::mission::current_waypoint;
 use falcon_guidance::state::Config;
 use falcon_guidance::state::Horizontal;
-use falcon_guidance::state::Mission;
 use falcon_guidance::state::Point;
 use falcon_guidance::state::Tick;
 use falcon_guidance::state::Zones;
@@ -37,23 +35,23 @@ fn cruise_over(c: Config, x: f32, y: f32) -> Point
     }
 }
 
-// The setpoint of the mode.
+// The setpoint of the mode, `leg` being the active leg's waypoint.
 pub(crate) fn setpoint(
     mode: Mode,
     c: Config,
-    m: Mission,
+    leg: Point,
     hold: Horizontal,
     p: Point,
     failed: bool,
 ) -> Point
-    ensures { λ r. ⌜ r ≡ setpointAt mode c m hold p failed ⌝ }
+    ensures { λ r. ⌜ r ≡ setpointAt mode c leg hold p failed ⌝ }
 {
     match mode {
         Mode::Disarmed => p,
         Mode::Armed => p,
         Mode::Takeoff => cruise_over(c, hold.x, hold.y),
         Mode::Loiter => cruise_over(c, hold.x, hold.y),
-        Mode::Mission => current_waypoint(c, m),
+        Mode::Mission => leg,
         Mode::Land => {
             if failed {
                 return cruise_over(c, p.x, p.y);

@@ -1,6 +1,6 @@
 // The tick: the paragraphs of the Rust's `step` in their order.
 ghost use mathlib.Core.Path.{_≡_};
-ghost use Rattle.falcon_flight.specs.Tick.{answerIn, tickOf};
+ghost use Rattle.falcon_flight.specs.Tick.{waypointAfter, answerIn, tickOf};
 use crate::milestone::milestone;
 use crate::setpoint::commanded;
 use crate::setpoint::landing;
@@ -15,7 +15,7 @@ use falcon_failsafe::state::FlightSupervisor;
 use falcon_guidance::geometry::distance;
 use falcon_guidance::state::Config;
 use falcon_guidance::state::Horizontal;
-use falcon_guidance::state::Mission;
+use falcon_guidance::state::Legs;
 use falcon_guidance::state::Point;
 use falcon_guidance::state::Tick;
 use falcon_guidance::state::Zones;
@@ -44,21 +44,21 @@ pub struct Ticked {
 fn answered(
     mode: Mode,
     c: Config,
-    m: Mission,
+    leg: Point,
     z: Zones,
     hold: Horizontal,
     home: f32,
     off: bool,
     t: Tick,
 ) -> TickAnswer
-    ensures { λ r. ⌜ r ≡ answerIn mode c m z hold home off t ⌝ }
+    ensures { λ r. ⌜ r ≡ answerIn mode c leg z hold home off t ⌝ }
 {
     if motors_off(mode) {
         return TickAnswer::MotorsOff;
     }
     let p = t.p;
     let descent = landing(mode, home, t);
-    let sp = setpoint(mode, c, m, hold, p, t.failed_motor);
+    let sp = setpoint(mode, c, leg, hold, p, t.failed_motor);
     TickAnswer::Setpoint {
         ned: commanded(z, descent, p, sp),
         landing: descent,
@@ -66,9 +66,19 @@ fn answered(
     }
 }
 
-// One tick.
-pub fn tick(f: FlightSupervisor, t: Tick) -> Ticked
-    ensures { λ r. ⌜ r ≡ tickOf f t ⌝ }
+// The active leg's waypoint after the leg number went from one to another: the next one's where it moved.
+fn waypoint_after(legs: Legs, from: u32, to: u32) -> Point
+    ensures { λ r. ⌜ r ≡ waypointAfter legs from to ⌝ }
+{
+    if from == to {
+        return legs.here;
+    }
+    legs.next
+}
+
+// One tick, with the waypoints of the active leg and of the next.
+pub fn tick(f: FlightSupervisor, legs: Legs, t: Tick) -> Ticked
+    ensures { λ r. ⌜ r ≡ tickOf f legs t ⌝ }
 {
     let config = f.config;
     let point = t.p;
@@ -96,7 +106,8 @@ pub fn tick(f: FlightSupervisor, t: Tick) -> Ticked
     );
     let mission = f.mission;
     let guarded_mode = guarded.mode;
-    let reached = milestone(guarded_mode, config, mission, home, point);
+    let here = legs.here;
+    let reached = milestone(guarded_mode, config, here, mission, home, point);
     let mode = reached.mode;
     let held_before = f.hold;
     let hold = held(held_before, mode, t);
@@ -111,13 +122,13 @@ pub fn tick(f: FlightSupervisor, t: Tick) -> Ticked
     flight.check_table = esc_telemetry(checked, t.motor_rpm);
     flight.rtl_latched = guarded.rtl_latched;
     flight.motors_were_off = motors_off(mode);
-    let legs = flight.mission;
+    let leg = waypoint_after(legs, mission.wp_index, reached.wp_index);
     let zones = f.zones;
     let hold_xy = hold.hold_xy;
     let answer = answered(
         mode,
         config,
-        legs,
+        leg,
         zones,
         hold_xy,
         home,

@@ -5,12 +5,13 @@ use native.Mathlib.Decide.{decLe}
 use native.Mathlib.Omega.{arith}
 use mathlib.Core.Bool.{Bool, true, false, _&&_}
 use mathlib.Core.Path.{_≡_, refl}
-use mathlib.Core.List.{List}
-use lib.ListN.{length}
+use mathlib.Core.List.{List, [], _∷_}
+use lib.ListN.{length, getD}
 use lib.Ieee.{Float}
+use Rattle.falcon_guidance.specs.declared.state.Point.{Point}
 use Rattle.falcon_guidance.specs.declared.state.Config.{Config}
-use Rattle.falcon_guidance.specs.Mission.{waypointAdmissibleOf, pointAtOf, triedOf, allAdmissibleOf}
-use Rattle.falcon_guidance.specs.State.{maxWaypoints}
+use Rattle.falcon_guidance.specs.Mission.{waypointAdmissibleOf, pointAtOf, triedOf, allAdmissibleOf, waypointAtOf}
+use Rattle.falcon_guidance.specs.State.{maxWaypoints, nowhere}
 
 and-false : (a : Bool) → (a && false) ≡ false
 and-false true = refl
@@ -35,3 +36,10 @@ tried-lent l = omega arith
 pub tried-places : (l : List Float) → triedOf l ≤ maxWaypoints
 unfolding triedOf
 tried-places l = omega arith
+
+-- within a list it does not matter what is read past its end
+pub waypoint-within : (ps : List Point) (i : ℕ) → i < length ps → getD ps i nowhere ≡ waypointAtOf ps i
+unfolding waypointAtOf
+waypoint-within [] i h = absurd (not-suc-le-zero h)
+waypoint-within (p ∷ ps) zero h = refl
+waypoint-within (p ∷ ps) (suc i) h = waypoint-within ps i (omega arith)

@@ -1,11 +1,12 @@
-// The waypoints: which are admissible, how a lent list is stored, and the one being flown to.
+// The waypoints: which are admissible, how a lent list is stored, and those of the active leg and the next.
 ghost use mathlib.Core.Path.{_≡_};
 ghost use Prim.Native.Nat.{_+_, _*_, _<_, _≤_, min};
 ghost use lib.ListN.{length};
 ghost use Rattle.falcon_guidance.specs.Mission.{waypointAdmissibleOf, pointAtOf, triedOf, allAdmissibleOf, storedOf, loadedOf};
-ghost use Rattle.falcon_guidance.specs.Mission.{waypointAtOf, currentWaypointOf};
+ghost use Rattle.falcon_guidance.specs.Mission.{noPoints, loadedPointsOf, waypointAtOf, legsOf};
 use crate::geometry::distance;
 use crate::state::Config;
+use crate::state::Legs;
 use crate::state::Mission;
 use crate::state::Point;
 use relay_math::is_finite;
@@ -88,12 +89,26 @@ pub fn loaded(lent: &[f32]) -> Mission
     ensures { λ r. ⌜ r ≡ loadedOf (now (lent .entry)) ⌝ }
 {
     let n = tried(lent);
-    let waypoints = stored(lent, n);
     Mission {
-        waypoints,
         wp_count: n as u32,
         wp_index: 0,
     }
+}
+
+// The waypoints of an accepted list.
+pub fn loaded_points(lent: &[f32]) -> [Point; 16]
+    ensures { λ r. ⌜ r ≡ loadedPointsOf (now (lent .entry)) ⌝ }
+{
+    let n = tried(lent);
+    stored(lent, n)
+}
+
+// The places with no waypoint in use.
+pub fn no_points() -> [Point; 16]
+    ensures { λ r. ⌜ r ≡ noPoints ⌝ }
+{
+    let point = Point::origin();
+    [point; 16]
 }
 
 // The smaller of two numbers.
@@ -106,24 +121,41 @@ fn least(a: u32, b: u32) -> u32
     b
 }
 
+// One more than a number, at most the last.
+fn following(i: u32, last: u32) -> u32
+    ensures { λ r. ⌜ r ≡ min (i + 1) last ⌝ }
+{
+    if i < last {
+        return i + 1;
+    }
+    last
+}
+
 // The waypoint in place i, the origin beyond the places.
-fn waypoint_at(m: Mission, i: u32) -> Point
-    ensures { λ r. ⌜ r ≡ waypointAtOf m i ⌝ }
+fn waypoint_at(points: [Point; 16], i: u32) -> Point
+    ensures { λ r. ⌜ r ≡ waypointAtOf points i ⌝ }
 {
     let at = i as usize;
     if at < Point::MAX_WAYPOINTS {
-        return m.waypoints[at];
+        return points[at];
     }
     Point::origin()
 }
 
-// The waypoint being flown to, home where there is none.
-pub fn current_waypoint(c: Config, m: Mission) -> Point
-    ensures { λ r. ⌜ r ≡ currentWaypointOf c m ⌝ }
+// The waypoints of the active leg and of the next, home where there is none.
+pub fn legs(c: Config, points: [Point; 16], m: Mission) -> Legs
+    ensures { λ r. ⌜ r ≡ legsOf c points m ⌝ }
 {
     let count = m.wp_count;
     if count == 0 {
-        return c.home;
+        let home = c.home;
+        return Legs {
+            here: home,
+            next: home,
+        };
     }
-    waypoint_at(m, least(m.wp_index, count - 1))
+    let last = count - 1;
+    let here = waypoint_at(points, least(m.wp_index, last));
+    let next = waypoint_at(points, following(m.wp_index, last));
+    Legs { here, next }
 }

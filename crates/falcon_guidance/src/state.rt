@@ -137,11 +137,16 @@ pub struct Config {
     pub calibration_configured: bool,
 }
 
-// The waypoints, how many are in use, and the active leg. Unused places hold the origin.
+// How many waypoints are in use, and the active leg.
 pub struct Mission {
-    pub waypoints: [Point; 16],
     pub wp_count: u32,
     pub wp_index: u32,
+}
+
+// The waypoint of the active leg, and that of the next one.
+pub struct Legs {
+    pub here: Point,
+    pub next: Point,
 }
 
 // The keep-out zones and how many are in use. Unused places hold no zone.

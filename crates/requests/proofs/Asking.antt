@@ -1,19 +1,66 @@
 -- From a line's bytes to what it asks. Assumes nothing.
 use Prim.Native.Nat.{ℕ, _+_, _*_, _≤_, _<_}
 use native.Mathlib.Omega.{arith}
-use mathlib.Core.Path.{_≡_, sym, ap, _∙_, subst}
+use mathlib.Core.Path.{_≡_, refl, sym, ap, _∙_, subst}
 use mathlib.Core.List.{List}
 use lib.ListN.{length, take, length-take}
 use lib.Seq.{take-take, getD-take}
 use Rattle.columns.specs.declared.line.LineRead.{LineRead}
 use Rattle.columns.specs.declared.line.LineRead.the-variants.{Numbers, Broken}
-use Rattle.columns.specs.Line.{readWithin, readingOf, Counted}
-use Rattle.columns.proofs.LineAgain.{line-only}
-use Rattle.falcon_core.specs.Calls.{points, zones}
+use Rattle.columns.specs.declared.field.FieldRead.{FieldRead}
+use Rattle.columns.specs.declared.field.FieldRead.the-variants.{Number, Bad}
+use Rattle.columns.specs.Field.{fieldWidth, inRange, kindOf}
+use Rattle.columns.specs.Line.{read, lineFields, readWithin, readingOf, Counted}
+use Rattle.columns.proofs.LineAgain.{within-cut, within-same, kind-cut, line-only, first-number}
+use Rattle.falcon_core.specs.Calls.{plans, points, zones}
 use Rattle.requests.specs.declared.kinds.Kind.{Kind}
 use Rattle.requests.specs.declared.kinds.Kind.the-variants.{Refused, Opens, Ticks, Reports, Commands, Points, Zones}
 use Rattle.requests.specs.Kinds.{Asked, refuses, asks, numberAt, requestOf, listLine, listFloats, Says}
-use Rattle.requests.specs.Line.{notALine, askedBy}
+use Rattle.requests.specs.Line.{notALine, askedBy, limitFields, mostFields, readingLine}
+
+-- ---- the limit of a line
+
+limit-ordinary : (k : FieldRead) → limitFields k ≡ lineFields
+unfolding limitFields
+limit-ordinary (Number n) = refl
+limit-ordinary Bad = refl
+
+pub limit-is : (v : ℕ) → lineFields ≡ limitFields (inRange v)
+limit-is v = sym (limit-ordinary (inRange v))
+
+-- every kind may have as many fields as an ordinary one
+pub limit-least : (k : FieldRead) → lineFields ≤ limitFields k
+limit-least k = omega (arith, limit-ordinary k)
+
+-- and none more than the most
+pub limit-most : (k : FieldRead) → limitFields k ≤ mostFields
+limit-most k = omega (arith, limit-ordinary k)
+
+-- a line that every kind may have is read without its kind
+pub read-short : (line : List ℕ) → length line ≤ fieldWidth * lineFields → readWithin lineFields line ≡ readingLine line
+unfolding readingLine
+read-short line h = within-same lineFields (limitFields (kindOf line)) line h (omega (arith, limit-least (kindOf line)))
+
+-- any other by its kind
+pub read-kinded : (line : List ℕ) (limit v : ℕ) → limit ≡ limitFields (inRange v) → inRange v ≡ kindOf line → readWithin limit line ≡ readingLine line
+unfolding readingLine
+read-kinded line limit v e k = ap (λ (n : ℕ). readWithin n line) (e ∙ ap limitFields k)
+
+pub kinded-most : (limit v : ℕ) → limit ≡ limitFields (inRange v) → limit ≤ mostFields
+kinded-most limit v e = omega (arith, limit-most (inRange v))
+
+-- a line over every kind's limit says the same without the bytes behind it
+pub reading-cut : (line : List ℕ) → fieldWidth * mostFields < length line → readingLine line ≡ readingLine (take (fieldWidth * mostFields + 1) line)
+unfolding readingLine
+reading-cut line h =
+    let cut : List ℕ = take (fieldWidth * mostFields + 1) line in
+    within-cut (limitFields (kindOf line)) mostFields line (limit-most (kindOf line)) h
+    ∙ ap (λ (k : FieldRead). readWithin (limitFields k) cut) (kind-cut (fieldWidth * mostFields + 1) line (omega arith))
+
+-- a line that is read has its first number as its kind
+pub reading-kind : (line ns : List ℕ) → readingLine line ≡ read ns → kindOf line ≡ Number (numberAt ns 0)
+unfolding readingLine
+reading-kind line ns h = first-number (limitFields (kindOf line)) line ns h
 
 -- the numbers that a line was read to
 module _ (limit : ℕ) (line : List ℕ) (r : LineRead) (a : List ℕ) (n : ℕ) (e : readingOf r a ≡ readWithin limit line) (k : r ≡ Numbers n) where
@@ -54,5 +101,5 @@ says-among (Opens o) a n asked h = h
 says-among (Ticks t) a n asked h = h
 says-among (Reports failed) a n asked h = h
 says-among (Commands ev level low) a n asked h = h
-says-among Points a n asked (e, h) = (sym (ap (λ (l : List ℕ). asks (points (listFloats l))) (same-list 3 n a h)) ∙ e, list-among 3 n a h)
-says-among Zones a n asked (e, h) = (sym (ap (λ (l : List ℕ). asks (zones (listFloats l))) (same-list 4 n a h)) ∙ e, list-among 4 n a h)
+says-among Points a n asked (e, h) = (sym (ap (λ (l : List ℕ). asks (plans (points (listFloats l)))) (same-list 3 n a h)) ∙ e, list-among 3 n a h)
+says-among Zones a n asked (e, h) = (sym (ap (λ (l : List ℕ). asks (plans (zones (listFloats l)))) (same-list 4 n a h)) ∙ e, list-among 4 n a h)

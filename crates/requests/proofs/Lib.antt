@@ -1,1 +1,1 @@
-mod Asking
+pub mod Asking

@@ -19,7 +19,7 @@ use Rattle.falcon_core.specs.declared.calls.Answered.{Answered}
 use Rattle.requests.specs.declared.kinds.Kind.{Kind}
 use Rattle.requests.specs.declared.kinds.Kind.the-variants.{Refused, Opens, Ticks, Reports, Commands, Points, Zones}
 use Rattle.falcon_guidance.specs.State.{pointOf}
-use Rattle.falcon_core.specs.Calls.{Request, opens, ticks, reports, commands, points, zones, wrongCount, outOfRange, refusedOf, stepOf}
+use Rattle.falcon_core.specs.Calls.{Request, opens, ticks, reports, commands, plans, points, zones, wrongCount, outOfRange, refusedOf, stepOf}
 
 -- what a line asks, or the refusal that fits it whatever the state
 pub data Asked : Type 0 where
@@ -137,11 +137,11 @@ commandLine ns =
 
 -- "5 points: n, then 3 each."
 unfoldable pub pointsLine : List ℕ → Asked
-pointsLine ns = cond (eqb (length ns) (2 + 3 * numberAt ns 1)) (asks (points (map (ofBits binary32) (drop 2 ns)))) (refuses wrongCount)
+pointsLine ns = cond (eqb (length ns) (2 + 3 * numberAt ns 1)) (asks (plans (points (map (ofBits binary32) (drop 2 ns))))) (refuses wrongCount)
 
 -- "6 zones: n, then 4 each."
 unfoldable pub zonesLine : List ℕ → Asked
-zonesLine ns = cond (eqb (length ns) (2 + 4 * numberAt ns 1)) (asks (zones (map (ofBits binary32) (drop 2 ns)))) (refuses wrongCount)
+zonesLine ns = cond (eqb (length ns) (2 + 4 * numberAt ns 1)) (asks (plans (zones (map (ofBits binary32) (drop 2 ns))))) (refuses wrongCount)
 
 -- "The first field is the kind"
 unfoldable pub requestOf : List ℕ → Asked
@@ -166,8 +166,8 @@ kindAsks ns (Opens o) = asks (opens o)
 kindAsks ns (Ticks t) = asks (ticks t)
 kindAsks ns (Reports failed) = asks (reports failed)
 kindAsks ns (Commands ev level low) = asks (commands ev level low)
-kindAsks ns Points = asks (points (listFloats (listLine 3 ns)))
-kindAsks ns Zones = asks (zones (listFloats (listLine 4 ns)))
+kindAsks ns Points = asks (plans (points (listFloats (listLine 3 ns))))
+kindAsks ns Zones = asks (plans (zones (listFloats (listLine 4 ns))))
 
 -- the points or zones of a line are among these numbers
 abbrev pub Listed : Kind → List ℕ → Type 0

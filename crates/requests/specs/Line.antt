@@ -1,7 +1,10 @@
 -- What a line asks, or the refusal that fits it whatever the state.
 use Prim.Native.Nat.{ℕ}
 use mathlib.Core.List.{List}
-use Rattle.columns.specs.Line.{Reading, read, broken, readLine}
+use Rattle.columns.specs.declared.field.FieldRead.{FieldRead}
+use Rattle.columns.specs.declared.field.FieldRead.the-variants.{Number, Bad}
+use Rattle.columns.specs.Field.{kindOf}
+use Rattle.columns.specs.Line.{Reading, read, broken, lineFields, readWithin}
 use Rattle.requests.specs.Kinds.{Asked, refuses, requestOf}
 
 -- 2: "length 0, no multiple of 11, over 1,430, or a bad field"
@@ -13,6 +16,19 @@ abbrev pub askedBy : Reading → Asked
 askedBy (read ns) = requestOf ns
 askedBy broken = refuses notALine
 
+-- how many fields a line may have, by its kind: "At most 130 fields"
+unfoldable pub limitFields : FieldRead → ℕ
+limitFields (Number n) = lineFields
+limitFields Bad = lineFields
+
+-- the most fields that a line of any kind may have
+abbrev pub mostFields : ℕ
+mostFields = lineFields
+
+-- what a line says
+unfoldable pub readingLine : List ℕ → Reading
+readingLine line = readWithin (limitFields (kindOf line)) line
+
 -- what a line asks: 2, 3, 4 and 5 in this order
 unfoldable pub askedLine : List ℕ → Asked
-askedLine line = askedBy (readLine line)
+askedLine line = askedBy (readingLine line)

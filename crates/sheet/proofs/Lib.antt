@@ -3,5 +3,6 @@ mod Floats
 pub mod LinesAgain
 pub mod LinesCut
 pub mod LinesTurns
+pub mod LinesFit
 pub mod Replies
 pub mod Sheets

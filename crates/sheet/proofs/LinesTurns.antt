@@ -130,16 +130,16 @@ placed-line d at i last s b e h is =
 
 -- ---- one line more
 
-take-next : (ls : List (List ℕ)) (k : ℕ) (l : List ℕ) (ms : List (List ℕ)) → drop k ls ≡ l ∷ ms → take (suc k) ls ≡ take k ls ++ (l ∷ [])
+pub take-next : (ls : List (List ℕ)) (k : ℕ) (l : List ℕ) (ms : List (List ℕ)) → drop k ls ≡ l ∷ ms → take (suc k) ls ≡ take k ls ++ (l ∷ [])
 take-next [] zero l ms h = let z : _≡_ {A = ℕ} 0 1 = cc in absurd (omega arith)
 take-next (x ∷ ls) zero l ms h = let e : x ≡ l = cc in ap (λ (m : List ℕ). m ∷ []) e
 take-next [] (suc k) l ms h = let z : _≡_ {A = ℕ} 0 1 = cc in absurd (omega arith)
 take-next (x ∷ ls) (suc k) l ms h = ap (λ (t : List (List ℕ)). x ∷ t) (take-next ls k l ms h)
 
-more-left : (ls : List (List ℕ)) (k : ℕ) (l : List ℕ) (ms : List (List ℕ)) → drop k ls ≡ l ∷ ms → k < length ls
+pub more-left : (ls : List (List ℕ)) (k : ℕ) (l : List ℕ) (ms : List (List ℕ)) → drop k ls ≡ l ∷ ms → k < length ls
 more-left ls k l ms h = omega (arith, length-drop k ls, ap length h)
 
-none-left : (ls : List (List ℕ)) (k : ℕ) → drop k ls ≡ [] → length ls ≤ k
+pub none-left : (ls : List (List ℕ)) (k : ℕ) → drop k ls ≡ [] → length ls ≤ k
 none-left ls k h = omega (arith, length-drop k ls, ap length h)
 
 module _ {S : Type 0} (after : S → List ℕ → S) (reply : S → List ℕ → List ℕ) (s₀ : S) (input d : List ℕ) where
@@ -157,7 +157,7 @@ module _ {S : Type 0} (after : S → List ℕ → S) (reply : S → List ℕ →
   going-first = record { most = omega arith; state = refl; read = refl; written = refl; buffer = refl; long = refl }
 
   -- what is left to read has the lines that are left
-  going-left : (s : S) (used at k : ℕ) (out : List ℕ) → Going s used at k out → whole (drop used input) ≡ drop k (whole input)
+  pub going-left : (s : S) (used at k : ℕ) (out : List ℕ) → Going s used at k out → whole (drop used input) ≡ drop k (whole input)
   going-left s used at k out g = ap (λ (n : ℕ). whole (drop n input)) (g .read) ∙ whole-off k input
 
   -- no newline is left: all whole lines are answered

@@ -1,67 +1,83 @@
--- Many lines answered into one buffer: widths, the lines that fit, and a sheet cut into parts. Assumes nothing.
-use Prim.Native.Nat.{ℕ, _+_, _-_, _*_, _/_, _≤_, _<_}
+-- Many lines answered into one buffer: the lines that fit, and a sheet cut into parts. Assumes nothing.
+use Prim.Native.Nat.{ℕ, _+_, _-_, _*_, _≤_, _<_}
 use native.Mathlib.Nat.{zero-add}
 use native.Mathlib.Omega.{arith}
-use native.Mathlib.Decide.{decLt}
 use mathlib.Core.Path.{_≡_, refl, sym, ap, _∙_}
 use mathlib.Core.List.{List, [], _∷_, _++_}
-use lib.ListN.{length, take, drop, length-take}
-use lib.Seq.{length-take-le, take-all, take-nil}
+use lib.ListN.{length, take, drop, length-append}
+use lib.Seq.{length-take-le, take-all}
 use Rattle.falcon_core.specs.declared.state.Supervisor.{Supervisor}
-use Rattle.falcon_core.specs.Calls.{numbersOf}
+use Rattle.falcon_core.specs.declared.calls.Answered.{Answered}
+use Rattle.sheet.specs.declared.entry.LineAnswered.{LineAnswered}
+use Rattle.sheet.specs.declared.entry.LineReplied.{LineReplied}
 use Rattle.sheet.specs.declared.many.Progress.{Progress}
+use Rattle.sheet.specs.Entry.{lineAnswered, lineReplied}
 use Rattle.columns.specs.Field.{fieldWidth, put}
-use Rattle.columns.specs.Line.{Reading, lineFields}
-use Rattle.sheet.specs.Lines.{newline, whole, joined, lastLine, linesOf, together, answers, stream}
+use Rattle.columns.specs.Line.{Reading}
+use Rattle.sheet.specs.Lines.{newline, whole, joined, lineEnd, lastLine, linesOf, together, answers, stream}
 use Rattle.requests.specs.Kinds.{answeredBy}
-use Rattle.call_lists.specs.Entry.{answerWidth, replyOf}
-use Rattle.requests.specs.Line.{askedBy, askedLine}
-use Rattle.sheet.specs.Many.{afterLine, replyLine, replyWidth, fitting, replies, progressOf, answersOver}
-use Rattle.call_lists.proofs.Answer.{numbers-count}
-use Rattle.columns.proofs.LineAgain.{within-cut}
-use Rattle.sheet.proofs.LinesAgain.{used-most}
-use Rattle.sheet.proofs.LinesCut.{length-answers, stream-all}
+use Rattle.call_lists.specs.Entry.{answerWidth, needOf, replyOf}
+use Rattle.requests.specs.Line.{mostFields, askedBy, askedLine}
+use Rattle.sheet.specs.Many.{afterLine, replyLine, fittingRoom, fitting, EndsFitting, replies, progressOf, answersOver}
+use Rattle.requests.proofs.Asking.{reading-cut}
+use Rattle.call_lists.proofs.Buffer.{reply-width, reply-fits}
+use Rattle.sheet.proofs.LinesAgain.{used-most, line-at, line-none}
+use Rattle.sheet.proofs.LinesCut.{stream-all}
 use Rattle.sheet.proofs.LinesTurns.{Going}
-use Rattle.columns.proofs.Writing.{length-line}
+use Rattle.sheet.proofs.LinesFit.{fit-full, fit-more, fit-none, fit-prefix, fit-room}
 
--- "ten fields, 110 bytes"
-pub length-reply : (s : Supervisor) (l : List ℕ) → length (replyLine s l) ≡ answerWidth
-unfolding replyLine replyOf
-length-reply s l =
-    length-line (numbersOf (answeredBy s (askedLine l) .answer))
-    ∙ ap (λ (n : ℕ). fieldWidth * n) (numbers-count (answeredBy s (askedLine l) .answer))
+-- a reply is no longer than what its line needs
+pub line-fits : (s : Supervisor) (l : List ℕ) → length (replyLine s l) ≤ needOf l
+unfolding replyLine
+line-fits s l = reply-fits s l
 
-pub length-replies : (s : Supervisor) (ls : List (List ℕ)) → length (replies s ls) ≡ replyWidth * length ls
-unfolding replies
-length-replies s ls = length-answers afterLine replyLine answerWidth length-reply s ls
+-- ---- what `answer` gives back
 
--- so many lines that there is no room for one more, or that none is left, are those that fit
-pub fitted : (ls : List (List ℕ)) (out : List ℕ) (k : ℕ) → k ≤ length ls → replyWidth * k ≤ length out
-    → (k < length ls → length out < replyWidth * k + replyWidth) → take k ls ≡ fitting ls out
-unfolding fitting
-fitted ls out k most room stop =
-    elim (decLt k (length ls)) [
-      | yes h ↦
-          let small : length out < replyWidth * k + replyWidth = stop h in
-          let e : k ≡ length out / replyWidth = omega arith in
-          ap (λ (n : ℕ). take n ls) e
-      | no q ↦
-          take-all k ls (omega arith) ∙ sym (take-all (length out / replyWidth) ls (omega arith))
-    ]
+pub replied-is : (a : Answered) → _≡_ {A = LineReplied} (record { supervisor = a .supervisor; refusal = a .answer .refusal; width = answerWidth }) (lineReplied a)
+replied-is a = ap (λ (n : ℕ). record { supervisor = a .supervisor; refusal = a .answer .refusal; width = n }) (sym (reply-width a))
+
+pub answered-is : (r : LineReplied) (a : Answered) → r ≡ lineReplied a → _≡_ {A = LineAnswered} (record { supervisor = r .supervisor; refusal = r .refusal }) (lineAnswered a)
+answered-is r a e = ap {B = LineAnswered} (λ (x : LineReplied). record { supervisor = x .supervisor; refusal = x .refusal }) e
 
 -- an input that is read in parts, cut anywhere, has the answers of its lines
-pub in-parts : (s : Supervisor) (cs : List (List ℕ)) → stream afterLine replyLine (fieldWidth * lineFields) s [] cs ≡ replies s (linesOf (together cs))
+pub in-parts : (s : Supervisor) (cs : List (List ℕ)) → stream afterLine replyLine (fieldWidth * mostFields) s [] cs ≡ replies s (linesOf (together cs))
 unfolding afterLine replyLine replies askedLine
 in-parts =
-    stream-all afterLine replyLine (fieldWidth * lineFields)
-    (λ s l h. ap (λ (r : Reading). answeredBy s (askedBy r) .supervisor) (within-cut lineFields l h))
-    (λ s l h. ap (λ (r : Reading). replyOf (answeredBy s (askedBy r))) (within-cut lineFields l h))
+    stream-all afterLine replyLine (fieldWidth * mostFields)
+    (λ s l h. ap (λ (r : Reading). answeredBy s (askedBy r) .supervisor) (reading-cut l h))
+    (λ s l h. ap (λ (r : Reading). replyOf (answeredBy s (askedBy r))) (reading-cut l h))
+
+-- ---- what `next_fitting` answers
+
+module _ (input : List ℕ) (from room e : ℕ) (found : e ≡ from + lineEnd (drop from input)) where
+  -- no newline is left
+  pub ends-none : length input ≤ e → EndsFitting input from room e
+  ends-none h =
+      record {
+        found = λ q. absurd (omega arith);
+        fits = λ q. absurd (omega arith);
+        none = λ q s. ap (λ (ls : List (List ℕ)). fittingRoom s ls room) (line-none input from e found h) ∙ fit-none afterLine replyLine needOf s room;
+      }
+
+  -- the line has too little room
+  pub ends-full : e < length input → room ≤ needOf (take (e - from) (drop from input)) → EndsFitting input from room (length input)
+  ends-full h full =
+      record {
+        found = λ q. absurd (omega arith);
+        fits = λ q. absurd (omega arith);
+        none = λ q s.
+            ap (λ (ls : List (List ℕ)). fittingRoom s ls room) (line-at input from e found h)
+            ∙ fit-full afterLine replyLine needOf s (take (e - from) (drop from input)) (whole (drop (e + 1) input)) room (omega arith);
+      }
+
+  -- it fits
+  pub ends-fitting : e < length input → needOf (take (e - from) (drop from input)) < room → EndsFitting input from room e
+  ends-fitting h fits = record { found = λ q. found; fits = λ q. omega arith; none = λ q. absurd (omega arith) }
 
 -- ---- what `answer_lines` answers, from the last turn of its loop
 
 module _ (s₀ : Supervisor) (input d : List ℕ) (s : Supervisor) (used at k : ℕ) (out : List ℕ)
-    (g : Going afterLine replyLine s₀ input d s used at k out) (most : at ≤ length d)
-    (stop : k < length (whole input) → length d < at + replyWidth) where
+    (g : Going afterLine replyLine s₀ input d s used at k out) (fits : take k (whole input) ≡ fittingRoom s₀ (whole input) (length d)) where
   done : List (List ℕ)
   done = take k (whole input)
 
@@ -69,15 +85,11 @@ module _ (s₀ : Supervisor) (input d : List ℕ) (s : Supervisor) (used at k : 
   unfolding done
   long = length-take-le k (whole input) (g .most)
 
-  wrote : at ≡ replyWidth * k
-  unfolding done replies
-  wrote = g .written ∙ length-replies s₀ done ∙ ap (λ (n : ℕ). replyWidth * n) long
+  all : done ≡ fitting s₀ (whole input) d
+  unfolding done fitting
+  all = fits
 
-  all : done ≡ fitting (whole input) d
-  unfolding done
-  all = fitted (whole input) d k (g .most) (omega (arith, wrote)) (λ h. omega (arith, wrote, stop h))
-
-  pub lines-progress : _≡_ {A = Progress} (record { supervisor = s; used = used; written = at; lines = k }) (progressOf s₀ (fitting (whole input) d))
+  pub lines-progress : _≡_ {A = Progress} (record { supervisor = s; used = used; written = at; lines = k }) (progressOf s₀ (fitting s₀ (whole input) d))
   unfolding progressOf done replies
   lines-progress =
       let a = g .state in
@@ -87,7 +99,7 @@ module _ (s₀ : Supervisor) (input d : List ℕ) (s : Supervisor) (used at k : 
       let here : _≡_ {A = Progress} (record { supervisor = s; used = used; written = at; lines = k }) (progressOf s₀ done) = cc in
       here ∙ ap (progressOf s₀) all
 
-  pub lines-buffer : out ≡ answersOver s₀ (fitting (whole input) d) d
+  pub lines-buffer : out ≡ answersOver s₀ (fitting s₀ (whole input) d) d
   unfolding answersOver done replies
   lines-buffer =
       g .buffer
@@ -101,49 +113,62 @@ pub over-none : (s : Supervisor) (ls : List (List ℕ)) (out : List ℕ) → ls 
 unfolding answersOver replies answers
 over-none s ls out e = (ap (λ (ms : List (List ℕ)). length (replies s ms)) (sym e), ap (λ (ms : List (List ℕ)). answersOver s ms out) (sym e))
 
-pub last-none : (input out : List ℕ) → length input ≡ 0 → fitting (lastLine input) out ≡ []
+pub last-none : (s : Supervisor) (input out : List ℕ) → length input ≡ 0 → fitting s (lastLine input) out ≡ []
 unfolding fitting lastLine
-last-none [] out e = take-nil (length out / replyWidth)
-last-none (b ∷ input) out e = absurd (omega arith)
+last-none s [] out e = fit-none afterLine replyLine needOf s (length out)
+last-none s (b ∷ input) out e = absurd (omega arith)
 
-pub last-short : (ls : List (List ℕ)) (out : List ℕ) → length out < replyWidth → fitting ls out ≡ []
-unfolding fitting
-last-short ls out h = let e : length out / replyWidth ≡ 0 = omega arith in ap (λ (n : ℕ). take n ls) e
-
-last-one : (input out : List ℕ) → (length input ≡ 0 → ⊥) → replyWidth ≤ length out → fitting (lastLine input) out ≡ input ∷ []
+pub last-short : (s : Supervisor) (input out : List ℕ) → length out ≤ needOf input → fitting s (lastLine input) out ≡ []
 unfolding fitting lastLine
-last-one [] out q h = absurd (q refl)
-last-one (b ∷ input) out q h = take-all (length out / replyWidth) ((b ∷ input) ∷ []) (omega arith)
+last-short s [] out h = fit-none afterLine replyLine needOf s (length out)
+last-short s (b ∷ input) out h = fit-full afterLine replyLine needOf s (b ∷ input) [] (length out) (omega arith)
 
-pub last-answer : (s : Supervisor) (input out next : List ℕ) → (length input ≡ 0 → ⊥) → replyWidth ≤ length out
+last-one : (s : Supervisor) (input out : List ℕ) → (length input ≡ 0 → ⊥) → needOf input < length out → fitting s (lastLine input) out ≡ input ∷ []
+unfolding fitting lastLine
+last-one s [] out q h = absurd (q refl)
+last-one s (b ∷ input) out q h =
+    fit-more afterLine replyLine needOf s (b ∷ input) [] (length out) (omega arith)
+    ∙ ap (λ (ls : List (List ℕ)). (b ∷ input) ∷ ls)
+    (fit-none afterLine replyLine needOf (afterLine s (b ∷ input)) (length out - (length (replyLine s (b ∷ input)) + 1)))
+
+-- the line from the first place to the last is the input
+pub all-line : (input : List ℕ) → take (length input - 0) (drop 0 input) ≡ input
+all-line input = take-all (length input - 0) input (omega arith)
+
+pub last-answer : (s : Supervisor) (input out next : List ℕ) → (length input ≡ 0 → ⊥) → needOf input < length out
     → next ≡ put out 0 (replyLine s (take (length input - 0) (drop 0 input)) ++ (newline ∷ []))
-    → (replyWidth ≡ length (replies s (fitting (lastLine input) out))) × (next ≡ answersOver s (fitting (lastLine input) out) out)
+    → (length (replyLine s input) + 1 ≡ length (replies s (fitting s (lastLine input) out))) × (next ≡ answersOver s (fitting s (lastLine input) out) out)
 unfolding put replies answers answersOver
 last-answer s input out next q h e =
-    let one : fitting (lastLine input) out ≡ input ∷ [] = last-one input out q h in
-    let line : take (length input - 0) (drop 0 input) ≡ input = take-all (length input - 0) input (omega arith) in (
-      sym (length-replies s (input ∷ [])) ∙ ap (λ (ls : List (List ℕ)). length (replies s ls)) (sym one),
+    let one : fitting s (lastLine input) out ≡ input ∷ [] = last-one s input out q h in (
+      sym (length-append (replyLine s input) (newline ∷ [])) ∙ ap (λ (ls : List (List ℕ)). length (replies s ls)) (sym one),
       e
-          ∙ ap (λ (l : List ℕ). put out 0 (replyLine s l ++ (newline ∷ []))) line
+          ∙ ap (λ (l : List ℕ). put out 0 (replyLine s l ++ (newline ∷ []))) (all-line input)
           ∙ ap (λ (n : ℕ). (replyLine s input ++ (newline ∷ [])) ++ drop n out) (zero-add (length (replyLine s input ++ (newline ∷ []))))
           ∙ ap (λ (ls : List (List ℕ)). answersOver s ls out) (sym one),
     )
 
 -- ---- what is read and written is no more than there is
 
-pub written-most : (s : Supervisor) (ls : List (List ℕ)) (out : List ℕ) → length (replies s (fitting ls out)) ≤ length out
-unfolding fitting
-written-most s ls out = omega (arith, length-replies s (take (length out / replyWidth) ls), length-take (length out / replyWidth) ls)
+pub written-most : (s : Supervisor) (ls : List (List ℕ)) (out : List ℕ) → length (replies s (fitting s ls out)) ≤ length out
+unfolding fitting replies
+written-most s ls out = fit-room afterLine replyLine needOf line-fits s ls (length out)
 
-pub read-most : (input out : List ℕ) → length (joined (fitting (whole input) out)) ≤ length input
+-- the lines that fit are the first
+pub fitting-prefix : (s : Supervisor) (ls : List (List ℕ)) (out : List ℕ) → take (length (fitting s ls out)) ls ≡ fitting s ls out
 unfolding fitting
-read-most input out = used-most (length out / replyWidth) input
+fitting-prefix s ls out = fit-prefix afterLine replyLine needOf s ls (length out)
 
-module _ (s : Supervisor) (input out : List ℕ) (p : Progress) (is : p ≡ progressOf s (fitting (whole input) out)) where
+pub read-most : (s : Supervisor) (input out : List ℕ) → length (joined (fitting s (whole input) out)) ≤ length input
+read-most s input out =
+    let n : ℕ = length (fitting s (whole input) out) in
+    omega (arith, used-most n input, ap (λ (ls : List (List ℕ)). length (joined ls)) (fitting-prefix s (whole input) out))
+
+module _ (s : Supervisor) (input out : List ℕ) (p : Progress) (is : p ≡ progressOf s (fitting s (whole input) out)) where
   pub progress-written : p .written ≤ length out
   unfolding progressOf
   progress-written = omega (arith, ap (λ (q : Progress). q .written) is, written-most s (whole input) out)
 
   pub progress-used : p .used ≤ length input
   unfolding progressOf
-  progress-used = omega (arith, ap (λ (q : Progress). q .used) is, read-most input out)
+  progress-used = omega (arith, ap (λ (q : Progress). q .used) is, read-most s input out)

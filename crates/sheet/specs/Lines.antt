@@ -1,13 +1,13 @@
 -- Many lines: how bytes part into lines, and what a step for one line makes of them, whole or read in parts.
-use Prim.Native.Nat.{ℕ, zero, suc, _+_, _*_}
+use Prim.Native.Nat.{ℕ, zero, suc, _+_, _-_, _*_}
 use mathlib.Core.Path.{_≡_}
 use mathlib.Core.Bool.{cond}
 use mathlib.Core.List.{List, [], _∷_, _++_}
-use lib.Dec.{eqb}
+use lib.Dec.{eqb, ltb}
 use lib.ListN.{length, take, drop}
 use lib.Seq.{slice}
 use Rattle.columns.specs.Field.{fieldWidth}
-use Rattle.columns.specs.Line.{lineFields}
+use Rattle.requests.specs.Line.{mostFields}
 
 abbrev pub newline : ℕ
 newline = 10
@@ -53,9 +53,9 @@ Clear l from to = from + lineEnd (drop from l) ≡ to + lineEnd (drop to l)
 abbrev pub blockWidth : ℕ
 blockWidth = 16
 
--- the bytes of a line begun that are kept from one read to the next: one more than a line may have
+-- the bytes of a line begun that are kept from one read to the next: one more than a line of any kind may have
 abbrev pub keptWidth : ℕ
-keptWidth = fieldWidth * lineFields + 1
+keptWidth = fieldWidth * mostFields + 1
 
 -- what is kept of the bytes from place `from` to place `have`
 unfoldable pub keptOf : List ℕ → ℕ → ℕ → List ℕ
@@ -84,3 +84,10 @@ module _ {S : Type 0} (after : S → List ℕ → S) (reply : S → List ℕ →
   stream limit s p [] = answers s (lastLine p)
   stream limit s p (c ∷ cs) =
       answers s (whole (p ++ c)) ++ stream limit (statesAfter after s (whole (p ++ c))) (take (limit + 1) (rest (p ++ c))) cs
+
+-- a step for one line, and how much room the kind of a line wants for its answer
+module _ {S : Type 0} (after : S → List ℕ → S) (reply : S → List ℕ → List ℕ) (need : List ℕ → ℕ) where
+  -- the first of these lines, as long as there is room for the next one and its newline
+  unfoldable pub fittingIn : S → List (List ℕ) → ℕ → List (List ℕ)
+  fittingIn s [] room = []
+  fittingIn s (l ∷ ls) room = cond (ltb room (need l + 1)) [] (l ∷ fittingIn (after s l) ls (room - (length (reply s l) + 1)))

@@ -1,12 +1,14 @@
 -- Many lines answered into one buffer.
-use Prim.Native.Nat.{ℕ, _+_, _/_}
-use mathlib.Core.List.{List, _++_}
+use Prim.Native.Nat.{ℕ, _+_, _-_, _*_, _≤_, _<_}
+use mathlib.Core.Path.{_≡_}
+use mathlib.Core.List.{List, [], _++_}
 use lib.ListN.{length, take, drop}
 use Rattle.falcon_core.specs.declared.state.Supervisor.{Supervisor}
 use Rattle.sheet.specs.declared.many.Progress.{Progress}
-use Rattle.sheet.specs.Lines.{joined, answers, statesAfter}
+use Rattle.sheet.specs.Lines.{whole, joined, lineEnd, answers, statesAfter, fittingIn}
+use Rattle.columns.specs.Field.{fieldWidth}
 use Rattle.requests.specs.Kinds.{answeredBy}
-use Rattle.call_lists.specs.Entry.{answerWidth, replyOf}
+use Rattle.call_lists.specs.Entry.{mostNeeded, needOf, replyOf}
 use Rattle.requests.specs.Line.{askedLine}
 
 -- the state after a line
@@ -17,13 +19,23 @@ afterLine s l = answeredBy s (askedLine l) .supervisor
 unfoldable pub replyLine : Supervisor → List ℕ → List ℕ
 replyLine s l = replyOf (answeredBy s (askedLine l))
 
--- an answer and its newline
-abbrev pub replyWidth : ℕ
-replyWidth = answerWidth + 1
+-- room for the answer to a line of any kind, and its newline
+abbrev pub replyMost : ℕ
+replyMost = fieldWidth * mostNeeded + 1
+
+-- the lines whose answers fit so many bytes: a line is answered only where what it needs and a newline fit
+abbrev pub fittingRoom : Supervisor → List (List ℕ) → ℕ → List (List ℕ)
+fittingRoom s ls room = fittingIn afterLine replyLine needOf s ls room
 
 -- the lines whose answers fit a buffer
-unfoldable pub fitting : List (List ℕ) → List ℕ → List (List ℕ)
-fitting ls out = take (length out / replyWidth) ls
+unfoldable pub fitting : Supervisor → List (List ℕ) → List ℕ → List (List ℕ)
+fitting s ls out = fittingRoom s ls (length out)
+
+-- e is the end of the line at `from`, where a newline ends it and its answer fits so many bytes; else no line is answered there
+pub record EndsFitting (input : List ℕ) (from room e : ℕ) : Type 0 where
+  pub found : e < length input → e ≡ from + lineEnd (drop from input)
+  pub fits : e < length input → needOf (take (e - from) (drop from input)) + 1 ≤ room
+  pub none : length input ≤ e → (s : Supervisor) → fittingRoom s (whole (drop from input)) room ≡ []
 
 -- the answers of several lines, with a newline after each
 unfoldable pub replies : Supervisor → List (List ℕ) → List ℕ

@@ -2,22 +2,27 @@
 ghost use mathlib.Core.Path.{_≡_};
 ghost use mathlib.Core.List.{map, _++_};
 ghost use Prim.Native.Nat.{_+_, _*_, _≤_};
+ghost use lib.Dec.{leb, ltb};
 ghost use lib.ListN.{length, drop};
 ghost use lib.Ieee.{binary32, ofBits};
-ghost use Rattle.falcon_core.specs.Calls.{numbersOf, points, zones, stepOf};
-ghost use Rattle.columns.specs.Line.{writtenOver, lineFields};
+ghost use Rattle.falcon_core.specs.Calls.{numbersOf, plans, points, zones, stepOf};
+ghost use Rattle.columns.specs.Field.{inRange};
+ghost use Rattle.columns.specs.Line.{writtenOver};
 ghost use Rattle.requests.specs.Kinds.{answeredBy, numberAt, listLine, listFloats, kindAsks, Listed};
-ghost use Rattle.call_lists.specs.Entry.{lineStep, bufferAfter};
-ghost use Rattle.sheet.specs.Entry.{lineAnswered};
+ghost use Rattle.requests.specs.Line.{mostFields, askedLine};
+ghost use Rattle.call_lists.specs.Entry.{needFields, needOf, lineStep, bufferAfter};
+ghost use Rattle.sheet.specs.Entry.{lineAnswered, lineReplied};
+ghost use Rattle.sheet.specs.Many.{replyLine};
 use columns::field::FIELD;
+use columns::field::read_kind;
 use columns::field::write_numbers;
-use columns::line::LINE_FIELDS;
 use falcon_core::calls::Answer;
 use falcon_core::calls::Answered;
 use falcon_core::calls::refused;
 use falcon_core::state::Supervisor;
 use relay_math::from_bits;
 use requests::kinds::Kind;
+use requests::line::MOST_FIELDS;
 use requests::line::asked;
 
 // The fields of an answer.
@@ -26,6 +31,9 @@ pub const ANSWER_FIELDS: usize = 10;
 // The bytes of an answer.
 pub const ANSWER: usize = FIELD * ANSWER_FIELDS;
 
+// The bytes that the answer to a line of any kind needs at most.
+pub const MOST_NEED: usize = ANSWER;
+
 // 9: the answer buffer is too short.
 pub const SHORT_BUFFER: u32 = 9;
 
@@ -33,6 +41,47 @@ pub const SHORT_BUFFER: u32 = 9;
 pub struct LineAnswered {
     pub supervisor: Supervisor,
     pub refusal: u32,
+}
+
+// The state after a line, the refusal that its answer gives, and the bytes of that answer.
+pub(crate) struct LineReplied {
+    pub supervisor: Supervisor,
+    pub refusal: u32,
+    pub width: usize,
+}
+
+// How many fields the answer to a line of this kind needs.
+fn need_fields(kind: u64) -> usize
+    ensures { λ r. ⌜ r ≡ needFields (inRange kind) ⌝ }
+{
+    ANSWER_FIELDS
+}
+
+// How many bytes the answer to a line needs.
+fn need_of(line: &[u8]) -> usize
+    ensures { λ r. ⌜ r ≡ needOf (now (line .entry)) ⌝ }
+{
+    FIELD * need_fields(read_kind(line))
+}
+
+// Whether so many bytes are too few for the answer to a line. The kind is read only where that matters.
+fn is_short(line: &[u8], room: usize) -> bool
+    ensures { λ r. ⌜ r ≡ ltb room (needOf (now (line .entry))) ⌝ }
+{
+    if MOST_NEED <= room {
+        return false;
+    }
+    room < need_of(line)
+}
+
+// Whether so many bytes are too few for the answer to a line and a newline.
+pub(crate) fn lacks_room(line: &[u8], room: usize) -> bool
+    ensures { λ r. ⌜ r ≡ leb room (needOf (now (line .entry))) ⌝ }
+{
+    if MOST_NEED < room {
+        return false;
+    }
+    room <= need_of(line)
 }
 
 // The numbers as floats, from the start of `floats` on.
@@ -49,31 +98,31 @@ fn read_floats(numbers: &[u32], floats: &mut [f32])
 
 // The points of a line, whose numbers are the first of these.
 fn points_step(s: Supervisor, numbers: &[u32]) -> Answered
-    requires { ⌜ (2 + 3 * numberAt (now numbers) 1 ≤ length (now numbers)) × (length (now numbers) ≤ lineFields) ⌝ }
-    ensures { λ r. ⌜ r ≡ stepOf s (points (listFloats (listLine 3 (now (numbers .entry))))) ⌝ }
+    requires { ⌜ (2 + 3 * numberAt (now numbers) 1 ≤ length (now numbers)) × (length (now numbers) ≤ mostFields) ⌝ }
+    ensures { λ r. ⌜ r ≡ stepOf s (plans (points (listFloats (listLine 3 (now (numbers .entry)))))) ⌝ }
 {
     let lent = 3 * (numbers[1] as usize);
     let end = 2 + lent;
-    let mut floats = [0.0f32; LINE_FIELDS];
+    let mut floats = [0.0f32; MOST_FIELDS];
     read_floats(&numbers[2..end], &mut floats);
     s.set_mission_waypoints(&floats[..lent])
 }
 
 // The zones of a line, whose numbers are the first of these.
 fn zones_step(s: Supervisor, numbers: &[u32]) -> Answered
-    requires { ⌜ (2 + 4 * numberAt (now numbers) 1 ≤ length (now numbers)) × (length (now numbers) ≤ lineFields) ⌝ }
-    ensures { λ r. ⌜ r ≡ stepOf s (zones (listFloats (listLine 4 (now (numbers .entry))))) ⌝ }
+    requires { ⌜ (2 + 4 * numberAt (now numbers) 1 ≤ length (now numbers)) × (length (now numbers) ≤ mostFields) ⌝ }
+    ensures { λ r. ⌜ r ≡ stepOf s (plans (zones (listFloats (listLine 4 (now (numbers .entry)))))) ⌝ }
 {
     let lent = 4 * (numbers[1] as usize);
     let end = 2 + lent;
-    let mut floats = [0.0f32; LINE_FIELDS];
+    let mut floats = [0.0f32; MOST_FIELDS];
     read_floats(&numbers[2..end], &mut floats);
     s.set_keepout_zones(&floats[..lent])
 }
 
 // What a line is answered with, by its kind; the line's numbers are the first of these.
 fn step(s: Supervisor, kind: Kind, numbers: &[u32]) -> Answered
-    requires { ⌜ Listed kind (now numbers) × (length (now numbers) ≤ lineFields) ⌝ }
+    requires { ⌜ Listed kind (now numbers) × (length (now numbers) ≤ mostFields) ⌝ }
     ensures { λ r. ⌜ r ≡ answeredBy s (kindAsks (now (numbers .entry)) kind) ⌝ }
 {
     match kind {
@@ -99,41 +148,47 @@ fn write_answer(out: &mut [u8], a: Answer)
     write_numbers(out, &numbers);
 }
 
-// The same as `answer`, with an array for the line's numbers.
-pub(crate) fn answer_with(
+// Answers a line into a buffer that has what it needs, with an array for the line's numbers.
+pub(crate) fn answer_full(
     s: Supervisor,
     line: &[u8],
     numbers: &mut [u32],
     out: &mut [u8],
-) -> LineAnswered
-    requires { ⌜ length (now numbers) ≡ lineFields ⌝ }
-    ensures { λ r. ⌜ r ≡ lineAnswered (lineStep s (now (line .entry)) (now (out .entry))) ⌝ }
-    ensures { λ _. ⌜ now (out .exit) ≡ bufferAfter s (now (line .entry)) (now (out .entry)) ⌝ }
+) -> LineReplied
+    requires { ⌜ (length (now numbers) ≡ mostFields) × (needOf (now line) ≤ length (now out)) ⌝ }
+    ensures { λ r. ⌜ r ≡ lineReplied (answeredBy s (askedLine (now (line .entry)))) ⌝ }
+    ensures { λ _. ⌜ now (out .exit) ≡ replyLine s (now (line .entry)) ++ drop (length (replyLine s (now (line .entry)))) (now (out .entry)) ⌝ }
     ensures { λ _. ⌜ now (line .exit) ≡ now (line .entry) ⌝ }
 {
-    if out.len() < ANSWER {
-        return LineAnswered {
-            supervisor: s,
-            refusal: SHORT_BUFFER,
-        };
-    }
     let kind = asked(line, numbers);
     let answered = step(s, kind, numbers);
     let a = answered.answer;
     write_answer(out, a);
     let supervisor = answered.supervisor;
-    LineAnswered {
+    LineReplied {
         supervisor,
         refusal: a.refusal,
+        width: ANSWER,
     }
 }
 
-// Answers a line. Under 110 bytes of buffer nothing is written and the refusal is 9.
+// Answers a line. Under what its kind needs, 110 bytes, nothing is written and the refusal is 9.
 pub fn answer(s: Supervisor, line: &[u8], out: &mut [u8]) -> LineAnswered
     ensures answered { λ r. ⌜ r ≡ lineAnswered (lineStep s (now (line .entry)) (now (out .entry))) ⌝ }
     ensures buffer { λ _. ⌜ now (out .exit) ≡ bufferAfter s (now (line .entry)) (now (out .entry)) ⌝ }
     ensures unchanged { λ _. ⌜ now (line .exit) ≡ now (line .entry) ⌝ }
 {
-    let mut numbers = [0u32; LINE_FIELDS];
-    answer_with(s, line, &mut numbers, out)
+    if is_short(line, out.len()) {
+        return LineAnswered {
+            supervisor: s,
+            refusal: SHORT_BUFFER,
+        };
+    }
+    let mut numbers = [0u32; MOST_FIELDS];
+    let replied = answer_full(s, line, &mut numbers, out);
+    let supervisor = replied.supervisor;
+    LineAnswered {
+        supervisor,
+        refusal: replied.refusal,
+    }
 }

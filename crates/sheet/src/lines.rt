@@ -7,7 +7,7 @@ ghost use mathlib.Core.List.{_++_};
 ghost use lib.ListN.{length, drop};
 ghost use Rattle.sheet.specs.Lines.{lineEnd, Clear, blockWidth, keptWidth, keptOf};
 use columns::field::FIELD;
-use columns::line::LINE_FIELDS;
+use requests::line::MOST_FIELDS;
 
 // The bytes that `find_newline` tries at once.
 const BLOCK: usize = 16;
@@ -58,7 +58,7 @@ pub fn find_newline(input: &[u8], from: usize) -> usize
 }
 
 // The bytes of a line begun that are kept from one read to the next.
-pub const KEPT: usize = FIELD * LINE_FIELDS + 1;
+pub const KEPT: usize = FIELD * MOST_FIELDS + 1;
 
 // The smaller of two numbers.
 fn smaller(a: usize, b: usize) -> usize

@@ -6,17 +6,18 @@ ghost use mathlib.Core.List.{_++_, _∷_, []};
 ghost use lib.ListN.{length, take, drop};
 ghost use Rattle.falcon_core.specs.State.{unopened};
 ghost use Rattle.columns.specs.Field.{put};
-ghost use Rattle.columns.specs.Line.{lineFields};
+ghost use Rattle.requests.specs.Kinds.{answeredBy};
+ghost use Rattle.requests.specs.Line.{mostFields, askedLine};
+ghost use Rattle.call_lists.specs.Entry.{needOf};
+ghost use Rattle.sheet.specs.Entry.{lineReplied};
 ghost use Rattle.sheet.specs.Lines.{newline, whole, lastLine, linesOf};
-ghost use Rattle.sheet.specs.Many.{afterLine, replyLine, replyWidth, fitting, replies, progressOf, answersOver};
-use crate::entry::ANSWER;
-use crate::entry::answer_with;
+ghost use Rattle.sheet.specs.Many.{replyLine, fitting, EndsFitting, replies, progressOf, answersOver};
+use crate::entry::LineReplied;
+use crate::entry::answer_full;
+use crate::entry::lacks_room;
 use crate::lines::find_newline;
-use columns::line::LINE_FIELDS;
 use falcon_core::state::Supervisor;
-
-// The bytes of an answer and its newline.
-pub const REPLY: usize = ANSWER + 1;
+use requests::line::MOST_FIELDS;
 
 // What was answered: the state after it, the bytes read and written, and the lines.
 pub struct Progress {
@@ -35,44 +36,51 @@ fn answer_at(
     numbers: &mut [u32],
     out: &mut [u8],
     at: usize,
-) -> Supervisor
-    requires { ⌜ (from ≤ end) × ((end ≤ length (now input)) × ((length (now numbers) ≡ lineFields) × (at + replyWidth ≤ length (now out)))) ⌝ }
-    ensures { λ r. ⌜ r ≡ afterLine s (take (end - from) (drop from (now (input .entry)))) ⌝ }
+) -> LineReplied
+    requires { ⌜ (from ≤ end) × ((end ≤ length (now input)) × ((length (now numbers) ≡ mostFields) × (at + (needOf (take (end - from) (drop from (now input))) + 1) ≤ length (now out)))) ⌝ }
+    ensures { λ r. ⌜ r ≡ lineReplied (answeredBy s (askedLine (take (end - from) (drop from (now (input .entry)))))) ⌝ }
     ensures { λ _. ⌜ now (out .exit) ≡ put (now (out .entry)) at (replyLine s (take (end - from) (drop from (now (input .entry)))) ++ (newline ∷ [])) ⌝ }
 {
-    let last = at + ANSWER;
-    let answered = answer_with(s, &input[from..end], numbers, &mut out[at..]);
+    let replied = answer_full(s, &input[from..end], numbers, &mut out[at..]);
+    let last = at + replied.width;
     out[last] = b'\n';
-    answered.supervisor
+    replied
+}
+
+// The end of the line at `from`, where a newline ends it and its answer with a newline fits so many bytes; else the length, or more.
+fn next_fitting(input: &[u8], from: usize, room: usize) -> usize
+    ensures { λ r. ⌜ EndsFitting (now (input .entry)) from room r ⌝ }
+{
+    let end = find_newline(input, from);
+    if input.len() <= end {
+        return end;
+    }
+    if lacks_room(&input[from..end], room) {
+        return input.len();
+    }
+    end
 }
 
 // Answers the lines that a newline ends, in order, as many as fit the buffer.
 pub fn answer_lines(s: Supervisor, input: &[u8], out: &mut [u8]) -> Progress
-    ensures progress { λ r. ⌜ r ≡ progressOf s (fitting (whole (now (input .entry))) (now (out .entry))) ⌝ }
-    ensures buffer { λ _. ⌜ now (out .exit) ≡ answersOver s (fitting (whole (now (input .entry))) (now (out .entry))) (now (out .entry)) ⌝ }
+    ensures progress { λ r. ⌜ r ≡ progressOf s (fitting s (whole (now (input .entry))) (now (out .entry))) ⌝ }
+    ensures buffer { λ _. ⌜ now (out .exit) ≡ answersOver s (fitting s (whole (now (input .entry))) (now (out .entry))) (now (out .entry)) ⌝ }
     ensures unchanged { λ _. ⌜ now (input .exit) ≡ now (input .entry) ⌝ }
 {
-    let mut numbers = [0u32; LINE_FIELDS];
+    let mut numbers = [0u32; MOST_FIELDS];
     let mut supervisor = s;
     let mut used = 0;
     let mut written = 0;
     let mut lines = 0;
-    let mut end = find_newline(input, 0);
+    let mut end = next_fitting(input, 0, out.len());
     while end < input.len() {
-        if out.len() - written < REPLY {
-            return Progress {
-                supervisor,
-                used,
-                written,
-                lines,
-            };
-        }
         let next = end + 1;
-        supervisor = answer_at(supervisor, input, used, end, &mut numbers, out, written);
+        let replied = answer_at(supervisor, input, used, end, &mut numbers, out, written);
+        supervisor = replied.supervisor;
         used = next;
-        written += REPLY;
+        written += replied.width + 1;
         lines += 1;
-        end = find_newline(input, used);
+        end = next_fitting(input, used, out.len() - written);
     }
     Progress {
         supervisor,
@@ -84,26 +92,26 @@ pub fn answer_lines(s: Supervisor, input: &[u8], out: &mut [u8]) -> Progress
 
 // Answers a last line without newline, where there is one and its answer fits. Answers how many bytes were written.
 pub fn answer_last(s: Supervisor, input: &[u8], out: &mut [u8]) -> usize
-    ensures written { λ r. ⌜ r ≡ length (replies s (fitting (lastLine (now (input .entry))) (now (out .entry)))) ⌝ }
-    ensures buffer { λ _. ⌜ now (out .exit) ≡ answersOver s (fitting (lastLine (now (input .entry))) (now (out .entry))) (now (out .entry)) ⌝ }
+    ensures written { λ r. ⌜ r ≡ length (replies s (fitting s (lastLine (now (input .entry))) (now (out .entry)))) ⌝ }
+    ensures buffer { λ _. ⌜ now (out .exit) ≡ answersOver s (fitting s (lastLine (now (input .entry))) (now (out .entry))) (now (out .entry)) ⌝ }
     ensures unchanged { λ _. ⌜ now (input .exit) ≡ now (input .entry) ⌝ }
 {
     let end = input.len();
     if end == 0 {
         return 0;
     }
-    if out.len() < REPLY {
+    if lacks_room(input, out.len()) {
         return 0;
     }
-    let mut numbers = [0u32; LINE_FIELDS];
-    answer_at(s, input, 0, end, &mut numbers, out, 0);
-    REPLY
+    let mut numbers = [0u32; MOST_FIELDS];
+    let replied = answer_at(s, input, 0, end, &mut numbers, out, 0);
+    replied.width + 1
 }
 
 // Answers a sheet from the state with no opening, as many of its lines as fit the buffer. Answers how many bytes were written.
 pub fn answer_sheet(input: &[u8], out: &mut [u8]) -> usize
-    ensures written { λ r. ⌜ r ≡ length (replies unopened (fitting (linesOf (now (input .entry))) (now (out .entry)))) ⌝ }
-    ensures buffer { λ _. ⌜ now (out .exit) ≡ answersOver unopened (fitting (linesOf (now (input .entry))) (now (out .entry))) (now (out .entry)) ⌝ }
+    ensures written { λ r. ⌜ r ≡ length (replies unopened (fitting unopened (linesOf (now (input .entry))) (now (out .entry)))) ⌝ }
+    ensures buffer { λ _. ⌜ now (out .exit) ≡ answersOver unopened (fitting unopened (linesOf (now (input .entry))) (now (out .entry))) (now (out .entry)) ⌝ }
     ensures unchanged { λ _. ⌜ now (input .exit) ≡ now (input .entry) ⌝ }
 {
     let s = Supervisor::new();
@@ -111,7 +119,7 @@ pub fn answer_sheet(input: &[u8], out: &mut [u8]) -> usize
     let supervisor = progress.supervisor;
     let used = progress.used;
     let written = progress.written;
-    if out.len() - written < REPLY {
+    if find_newline(input, used) < input.len() {
         return written;
     }
     let last = answer_last(supervisor, &input[used..], &mut out[written..]);

@@ -1,9 +1,9 @@
 // The tick with no text: a day flown again and again, and the sum of its answers. `harness/bench tick` times it beside the Rust's `step`.
 use falcon_core::state::Supervisor;
-use falcon_failsafe::state::FlightSupervisor;
 use falcon_failsafe::state::Opening;
 use falcon_flight::tick::TickAnswer;
 use falcon_flight::tick::tick;
+use falcon_guidance::mission::legs;
 use falcon_guidance::state::Point;
 use falcon_guidance::state::Tick;
 use libc::STDOUT_FILENO;
@@ -89,38 +89,37 @@ fn tick_at(i: u32) -> Tick {
 
 // The flight and the sum after some ticks.
 struct Flown {
-    flight: FlightSupervisor,
+    supervisor: Supervisor,
     sum: u64,
 }
 
-fn fly(f: FlightSupervisor, sum: u64) -> Flown {
-    let mut flight = f;
+fn fly(begun: Supervisor, sum: u64) -> Flown {
+    let config = begun.flight.config;
+    let waypoints = begun.waypoints;
+    let mut flight = begun.flight;
     let mut s = sum;
     let mut i = 0;
     while i < PART {
-        let ticked = tick(flight, tick_at(i));
+        let mission = flight.mission;
+        let ticked = tick(flight, legs(config, waypoints, mission), tick_at(i));
         flight = ticked.flight;
         let answer = ticked.answer;
         s = summed(s, answer);
         i += 1;
     }
-    Flown { flight, sum: s }
+    let mut supervisor = begun;
+    supervisor.flight = flight;
+    Flown { supervisor, sum: s }
 }
 
-// The flight after a command.
-fn commanded(f: FlightSupervisor, ev: Event) -> FlightSupervisor {
-    let s = Supervisor {
-        flight: f,
-        opened: true,
-        report_due: false,
-    };
+// The state after a command.
+fn commanded(s: Supervisor, ev: Event) -> Supervisor {
     let answered = s.command(ev, true, true);
-    let after = answered.supervisor;
-    after.flight
+    answered.supervisor
 }
 
 // Opened, with two points and a zone, armed and taking off.
-fn started() -> FlightSupervisor {
+fn started() -> Supervisor {
     let s = Supervisor::new();
     let opened = s.opening(Opening {
         home: Point::origin(),
@@ -138,16 +137,15 @@ fn started() -> FlightSupervisor {
     let s = listed.supervisor;
     let zoned = s.set_keepout_zones(&zone);
     let s = zoned.supervisor;
-    let flight = s.flight;
-    commanded(commanded(flight, Event::Arm), Event::RequestTakeoff)
+    commanded(commanded(s, Event::Arm), Event::RequestTakeoff)
 }
 
 fn day(sum: u64) -> u64 {
     let out = fly(started(), sum);
-    let flight = out.flight;
-    let legs = fly(commanded(flight, Event::RequestMission), out.sum);
-    let flight = legs.flight;
-    let back = fly(commanded(flight, Event::RequestRtl), legs.sum);
+    let s = out.supervisor;
+    let toured = fly(commanded(s, Event::RequestMission), out.sum);
+    let s = toured.supervisor;
+    let back = fly(commanded(s, Event::RequestRtl), toured.sum);
     back.sum
 }
 

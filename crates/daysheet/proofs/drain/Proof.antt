@@ -64,7 +64,7 @@ loop-again c =
     let p = l .progress in
     let call = c .before .before .answer-lines2 in (
       drains-next _ _ _ _ _ _ _ (l .inv .0) (call .last .1 .1 .0) (call .result) (call .kept .1 .1 .0)
-          (call .ensures .0 ∙ ap (λ (t : List ℕ). progressOf (p .supervisor) (fitting (whole t) (l .out))) (to-end (a .input .now) (l .used + p .used))),
+          (call .ensures .0 ∙ ap (λ (t : List ℕ). progressOf (p .supervisor) (fitting (p .supervisor) (whole t) (l .out))) (to-end (a .input .now) (l .used + p .used))),
       call .kept .1 .1 .0 ∙ l .inv .1,
     )
 

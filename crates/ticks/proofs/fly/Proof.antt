@@ -6,16 +6,19 @@ use Rattle.ticks.proofs.fly.Statement.{statement}
 use Rattle.ticks.proofs.fly.Tie as tie
 
 abbrev Inv-loop : tie.InvT-loop
-Inv-loop sum flight₀ s₀ i₀ flight s i = Unit
+Inv-loop begun sum config waypoints flight₀ s₀ i₀ flight s i = Unit
 
 abbrev μ-loop : tie.MeasureT-loop
-μ-loop sum flight₀ s₀ i₀ flight s i = 1000 - i
+μ-loop begun sum config waypoints flight₀ s₀ i₀ flight s i = 1000 - i
 
 loop-holds : tie.Need-loop-holds Inv-loop μ-loop
 loop-holds c = tt
 
 tick-at-requires : tie.Need-tick-at-requires Inv-loop μ-loop
 tick-at-requires c κs = search needs
+
+legs-requires : tie.Need-legs-requires Inv-loop μ-loop
+legs-requires c κs = search needs
 
 tick-requires : tie.Need-tick-requires Inv-loop μ-loop
 tick-requires c κs = search needs
@@ -42,6 +45,7 @@ fly-spec =
     Inv-loop
     μ-loop
     loop-holds
+    legs-requires
     tick-at-requires
     tick-requires
     summed-requires

@@ -12,10 +12,10 @@ use Rattle.columns.proofs.line.read_line.Statement.{statement}
 use Rattle.columns.proofs.line.read_line.Tie as tie
 
 abbrev Inv-loop : tie.InvT-loop
-Inv-loop line numbers₀ n count at₀ k₀ numbers at k = ReadTo line count numbers at k × (length numbers ≡ length numbers₀)
+Inv-loop line limit numbers₀ n count at₀ k₀ numbers at k = ReadTo line count numbers at k × (length numbers ≡ length numbers₀)
 
 abbrev μ-loop : tie.MeasureT-loop
-μ-loop line numbers₀ n count at₀ k₀ numbers at k = count - k
+μ-loop line limit numbers₀ n count at₀ k₀ numbers at k = count - k
 
 -- lengths and places
 some : (n : ℕ) → (n ≡ 0 → ⊥) → 0 < n
@@ -33,11 +33,11 @@ whole n = omega arith
 field : (n at k : ℕ) → k < n / fieldWidth → at ≡ fieldWidth * k → at + fieldWidth ≤ n
 field n at k h e = omega arith
 
-place : (k count limit long : ℕ) → k < count → count ≤ limit → long ≡ limit → k < long
-place k count limit long h l e = omega arith
+place : (k count limit room long : ℕ) → k < count → count ≤ limit → limit ≤ room → long ≡ room → k < long
+place k count limit room long h l m e = omega arith
 
-places : (k count limit long : ℕ) → k ≤ count → count ≤ limit → long ≡ limit → k ≤ long
-places k count limit long h l e = omega arith
+places : (k count limit room long : ℕ) → k ≤ count → count ≤ limit → limit ≤ room → long ≡ room → k ≤ long
+places k count limit room long h l m e = omega arith
 
 less : (k count : ℕ) → k < count → count - (k + 1) < count - k
 less k count h = omega arith
@@ -45,29 +45,29 @@ less k count h = omega arith
 -- at the loop the length has been tried
 even : (c : tie.At-loop Inv-loop μ-loop)
     → let a = c .before .before .before .before .before .before .args in
-    readWithin (length (a .numbers .now)) (a .line .now) ≡ fields (length (a .line .now) / fieldWidth) (a .line .now)
+    readWithin (a .limit) (a .line .now) ≡ fields (length (a .line .now) / fieldWidth) (a .line .now)
 even c =
     let a = c .before .before .before .before .before .before .args in
-    within-ok (length (a .numbers .now)) (a .line .now) (some _ (c .before .before .before .if1 .left)) (c .before .before .if2 .left)
+    within-ok (a .limit) (a .line .now) (some _ (c .before .before .before .if1 .left)) (c .before .before .if2 .left)
     (most _ _ (c .before .before .if2 .left) (c .before .if3 .left))
 
 returns : tie.Need-returns Inv-loop μ-loop
 unfolding readingOf
 returns c =
     let a = c .before .before .before .args in
-    (sym (within-none (length (a .numbers .now)) (a .line .now) (c .if1 .taken)), tt)
+    (sym (within-none (a .limit) (a .line .now) (c .if1 .taken)), tt)
 
 returns-2 : tie.Need-returns-2 Inv-loop μ-loop
 unfolding readingOf
 returns-2 c =
     let a = c .before .before .before .before .args in
-    (sym (within-uneven (length (a .numbers .now)) (a .line .now) (c .if2 .taken)), tt)
+    (sym (within-uneven (a .limit) (a .line .now) (c .if2 .taken)), tt)
 
 returns-3 : tie.Need-returns-3 Inv-loop μ-loop
 unfolding readingOf
 returns-3 c =
     let a = c .before .before .before .before .before .args in
-    (sym (within-long (length (a .numbers .now)) (a .line .now) (over _ _ (c .if3 .taken))), tt)
+    (sym (within-long (a .limit) (a .line .now) (over _ _ (c .if3 .taken))), tt)
 
 loop-holds : tie.Need-loop-holds Inv-loop μ-loop
 loop-holds c = (read-first _ _ _, refl)
@@ -100,7 +100,7 @@ mul-numbers : tie.Need-mul-numbers Inv-loop μ-loop
 mul-numbers c = omega arith
 
 slice-write-numbers : tie.Need-slice-write-numbers Inv-loop μ-loop
-slice-write-numbers c = place _ _ _ _ (c .before .before .before .before .loop-test .taken) (c .before .before .before .before .before .before .if3 .left) (c .before .before .before .before .before .loop .inv .1)
+slice-write-numbers c = place _ _ _ _ _ (c .before .before .before .before .loop-test .taken) (c .before .before .before .before .before .before .if3 .left) (c .before .before .before .before .before .before .before .before .before .before .before .pre) (c .before .before .before .before .before .loop .inv .1)
 
 add-at : tie.Need-add-at Inv-loop μ-loop
 add-at c = omega arith
@@ -118,7 +118,7 @@ loop-again c =
     let a = turn .before .before .before .before .before .before .before .args in
     let number = sym (c .before .before .before .read-field .ensures) ∙ c .before .v .given .1 in (
       read-next (a .line .now) (length (a .line .now) / fieldWidth) (l .numbers) (l .at) (l .k) (whole _) (turn .loop-test .taken) (l .inv .0) _
-          (place _ _ _ _ (turn .loop-test .taken) (turn .before .before .if3 .left) (l .inv .1)) number,
+          (place _ _ _ _ _ (turn .loop-test .taken) (turn .before .before .if3 .left) (turn .before .before .before .before .before .before .before .pre) (l .inv .1)) number,
       simp length-set (l .inv .1),
     )
 
@@ -129,7 +129,7 @@ returns-5 : tie.Need-returns-5 Inv-loop μ-loop
 unfolding readingOf
 returns-5 c =
     let l = c .before .loop in
-    let room : l .k ≤ length (l .numbers) = places _ _ _ _ (l .inv .0 .most) (c .before .before .if3 .left) (l .inv .1) in
+    let room : l .k ≤ length (l .numbers) = places _ _ _ _ _ (l .inv .0 .most) (c .before .before .if3 .left) (c .before .before .before .before .before .before .before .pre) (l .inv .1) in
     (sym (even (c .before) ∙ read-last _ _ _ _ _ (c .loop-test .left) (l .inv .0)), (room, sym (length-take-le _ _ room)))
 
 pub read-line-spec : {M : Type 1} → statement M

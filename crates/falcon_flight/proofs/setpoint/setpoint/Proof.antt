@@ -23,9 +23,6 @@ cruise-over-requires-2 c κs = search needs
 enum-told-5 : tie.Need-enum-told-5
 enum-told-5 c = search needs
 
-current-waypoint-requires : tie.Need-current-waypoint-requires
-current-waypoint-requires c κs = search needs
-
 enum-told-6 : tie.Need-enum-told-6
 enum-told-6 c = search needs
 
@@ -60,7 +57,7 @@ returns-5 : tie.Need-returns-5
 returns-5 c = simp (c .cruise-over2 .ensures, c .before .enum-told4 .given .1)
 
 returns-6 : tie.Need-returns-6
-returns-6 c = simp (c .current-waypoint .ensures, c .before .enum-told5 .given .1)
+returns-6 c = simp (c .enum-told5 .given .1)
 
 returns-7 : tie.Need-returns-7
 returns-7 c = simp (c .cruise-over4 .ensures, c .before .if1 .left, c .before .before .enum-told6 .given .1)
@@ -82,7 +79,6 @@ setpoint-spec =
     enum-told-4
     cruise-over-requires-2
     enum-told-5
-    current-waypoint-requires
     enum-told-6
     cruise-over-requires-3
     returns

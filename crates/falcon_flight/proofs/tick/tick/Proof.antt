@@ -30,23 +30,28 @@ esc-telemetry-requires c κs = search needs
 motors-off-requires : tie.Need-motors-off-requires
 motors-off-requires c κs = search needs
 
+waypoint-after-requires : tie.Need-waypoint-after-requires
+waypoint-after-requires c κs = search needs
+
 answered-requires : tie.Need-answered-requires
 answered-requires c κs = search needs
 
 returns : tie.Need-returns
 returns c =
     joined
-    (c .before .before .before .before .before .before .before .before .before .before .before .before .before .before .before .before .before .before .before .before .before .before .before .before .before .args .f)
-    (c .before .before .before .before .before .before .before .before .before .before .before .before .before .before .before .before .before .before .before .before .before .before .before .before .before .args .t)
-    (c .before .before .before .before .before .before .before .before .before .before .before .before .before .before .before .before .before .before .before .before .before .distance .ensures)
-    (c .before .before .before .before .before .before .before .before .before .before .before .before .before .before .before .before .before .before .cleared .ensures)
-    (c .before .before .before .before .before .before .before .before .before .before .before .before .before .before .before .before .update .ensures)
-    (c .before .before .before .before .before .before .before .before .before .before .before .before .before .before .update-preflight .ensures)
-    (c .before .before .before .before .before .before .before .before .before .before .before .before .failsafes .ensures)
+    (c .before .before .before .before .before .before .before .before .before .before .before .before .before .before .before .before .before .before .before .before .before .before .before .before .before .before .args .f)
+    (c .before .before .before .before .before .before .before .before .before .before .before .before .before .before .before .before .before .before .before .before .before .before .before .before .before .before .args .legs)
+    (c .before .before .before .before .before .before .before .before .before .before .before .before .before .before .before .before .before .before .before .before .before .before .before .before .before .before .args .t)
+    (c .before .before .before .before .before .before .before .before .before .before .before .before .before .before .before .before .before .before .before .before .before .before .distance .ensures)
+    (c .before .before .before .before .before .before .before .before .before .before .before .before .before .before .before .before .before .before .before .cleared .ensures)
+    (c .before .before .before .before .before .before .before .before .before .before .before .before .before .before .before .before .before .update .ensures)
+    (c .before .before .before .before .before .before .before .before .before .before .before .before .before .before .before .update-preflight .ensures)
+    (c .before .before .before .before .before .before .before .before .before .before .before .before .before .failsafes .ensures)
     (c .before .before .before .before .before .before .before .before .before .before .milestone .ensures)
     (c .before .before .before .before .before .before .before .before .held .ensures)
     (c .before .before .before .before .before .esc-telemetry .ensures)
     (c .before .before .before .before .motors-off .ensures)
+    (c .before .before .before .waypoint-after .ensures)
     (c .answered .ensures)
 
 pub tick-spec : {M : Type 1} → statement M
@@ -62,5 +67,6 @@ tick-spec =
     held-requires
     esc-telemetry-requires
     motors-off-requires
+    waypoint-after-requires
     answered-requires
     returns)

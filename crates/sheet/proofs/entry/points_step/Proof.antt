@@ -4,7 +4,7 @@ use mathlib.Core.List.{List}
 use lib.ListN.{getD}
 use lib.Seq.{length-take-le}
 use lib.Ieee.{Float, binary32, ofBits}
-use Rattle.falcon_core.specs.Calls.{stepOf, points}
+use Rattle.falcon_core.specs.Calls.{stepOf, plans, points}
 use Rattle.sheet.proofs.Floats.{lent-is}
 use borrow.Author.Needs.{needs}
 use Rattle.sheet.proofs.entry.points_step.Statement.{statement}
@@ -50,7 +50,7 @@ returns : tie.Need-returns
 returns c =
     let ns = c .before .before .before .before .before .before .before .before .args .numbers .now in
     c .set-mission-waypoints .ensures .0
-    ∙ ap (λ (l : List Float). stepOf (c .before .before .before .before .before .before .before .before .args .s) (points l)) (lent-is (ofBits binary32) ns (3 * getD ns 1 0) _ _ (c .before .before .before .before .before .before .before .before .pre .0) (c .before .before .before .read-floats .ensures))
+    ∙ ap (λ (l : List Float). stepOf (c .before .before .before .before .before .before .before .before .args .s) (plans (points l))) (lent-is (ofBits binary32) ns (3 * getD ns 1 0) _ _ (c .before .before .before .before .before .before .before .before .pre .0) (c .before .before .before .read-floats .ensures))
 
 pub points-step-spec : {M : Type 1} → statement M
 points-step-spec =

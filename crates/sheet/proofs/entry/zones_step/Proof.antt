@@ -4,7 +4,7 @@ use mathlib.Core.List.{List}
 use lib.ListN.{getD}
 use lib.Seq.{length-take-le}
 use lib.Ieee.{Float, binary32, ofBits}
-use Rattle.falcon_core.specs.Calls.{stepOf, zones}
+use Rattle.falcon_core.specs.Calls.{stepOf, plans, zones}
 use Rattle.sheet.proofs.Floats.{lent-is}
 use borrow.Author.Needs.{needs}
 use Rattle.sheet.proofs.entry.zones_step.Statement.{statement}
@@ -50,7 +50,7 @@ returns : tie.Need-returns
 returns c =
     let ns = c .before .before .before .before .before .before .before .before .args .numbers .now in
     c .set-keepout-zones .ensures .0
-    ∙ ap (λ (l : List Float). stepOf (c .before .before .before .before .before .before .before .before .args .s) (zones l)) (lent-is (ofBits binary32) ns (4 * getD ns 1 0) _ _ (c .before .before .before .before .before .before .before .before .pre .0) (c .before .before .before .read-floats .ensures))
+    ∙ ap (λ (l : List Float). stepOf (c .before .before .before .before .before .before .before .before .args .s) (plans (zones l))) (lent-is (ofBits binary32) ns (4 * getD ns 1 0) _ _ (c .before .before .before .before .before .before .before .before .pre .0) (c .before .before .before .read-floats .ensures))
 
 pub zones-step-spec : {M : Type 1} → statement M
 zones-step-spec =

@@ -1,99 +1,139 @@
-use Prim.Native.Nat.{_+_, _-_, _≤_, _<_}
+use Prim.Native.Nat.{ℕ, _+_, _-_, _≤_, _<_}
 use native.Mathlib.Omega.{arith}
-use mathlib.Core.Path.{_≡_, refl, sym, _∙_}
+use mathlib.Core.Path.{_≡_, refl, sym, ap, _∙_, subst}
 use lib.ListN.{length, take, drop}
-use borrow.Author.Needs.{needs}
-use Rattle.columns.specs.Line.{lineFields}
+use Rattle.falcon_core.specs.declared.state.Supervisor.{Supervisor}
+use Rattle.requests.specs.Line.{mostFields}
+use Rattle.call_lists.specs.Entry.{needOf}
+use Rattle.sheet.specs.declared.entry.LineReplied.{LineReplied}
 use Rattle.sheet.specs.Lines.{whole, lineEnd}
-use Rattle.sheet.specs.Many.{afterLine, replyLine, replyWidth}
+use Rattle.sheet.specs.Many.{afterLine, replyLine, EndsFitting}
 use Rattle.sheet.proofs.LinesAgain.{whole-most}
-use Rattle.sheet.proofs.LinesTurns.{Going, going-first, going-next, going-last}
-use Rattle.sheet.proofs.Replies.{length-reply, lines-progress, lines-buffer}
+use Rattle.sheet.proofs.LinesTurns.{Going, going-first, going-more, going-next}
+use Rattle.sheet.proofs.LinesFit.{Fitted, fitted-first, fits-next, fits-last}
+use Rattle.sheet.proofs.Replies.{line-fits, lines-progress, lines-buffer}
+use borrow.Author.Needs.{needs}
 use Rattle.sheet.proofs.many.answer_lines.Statement.{statement}
 use Rattle.sheet.proofs.many.answer_lines.Tie as tie
 
 abbrev Inv-loop : tie.InvT-loop
 Inv-loop input out₀ numbers₀ supervisor₀ used₀ written₀ lines₀ end₀ out numbers supervisor used written lines end =
     Going afterLine replyLine supervisor₀ input out₀ supervisor used written lines out
-    × ((end ≡ used + lineEnd (drop used input)) × ((written ≤ length out₀) × (length numbers ≡ lineFields)))
+    × (Fitted afterLine replyLine needOf supervisor₀ (whole input) (length out₀) lines supervisor written
+    × (EndsFitting input used (length out₀ - written) end × ((written ≤ length out₀) × (length numbers ≡ mostFields))))
 
 abbrev μ-loop : tie.MeasureT-loop
 μ-loop input out₀ numbers₀ supervisor₀ used₀ written₀ lines₀ end₀ out numbers supervisor used written lines end = length input - used
 
-find-newline-requires : tie.Need-find-newline-requires Inv-loop μ-loop
-find-newline-requires c κs = search needs
+next-fitting-requires : tie.Need-next-fitting-requires Inv-loop μ-loop
+next-fitting-requires c κs = search needs
 
 loop-holds : tie.Need-loop-holds Inv-loop μ-loop
-loop-holds c = (going-first _ _ _ _ _, (c .find-newline .ensures, (omega arith, refl)))
-
-sub-if1 : tie.Need-sub-if1 Inv-loop μ-loop
-sub-if1 c = search needs
-
-same-length : tie.Need-same-length Inv-loop μ-loop
-same-length c = search needs
-
-returns : tie.Need-returns Inv-loop μ-loop
-returns c =
-    let a = c .before .before .before .before .before .before .args in
-    let l = c .before .before .loop in
-    let g = l .inv .0 in
-    let stop : l .lines < length (whole (a .input .now)) → length (a .out .now) < l .written + replyWidth = λ h. omega (arith, g .long, c .if1 .taken, l .inv .1 .1 .0) in (
-      lines-progress (a .s) (a .input .now) (a .out .now) (l .supervisor) (l .used) (l .written) (l .lines) (l .out) g (l .inv .1 .1 .0) stop,
-      (lines-buffer (a .s) (a .input .now) (a .out .now) (l .supervisor) (l .used) (l .written) (l .lines) (l .out) g (l .inv .1 .1 .0) stop, refl),
+loop-holds c =
+    let a = c .before .before .before .args in
+    let z : length (a .out .now) ≡ length (a .out .now) - 0 = omega arith in (
+      going-first _ _ _ _ _,
+      (
+        fitted-first afterLine replyLine needOf (a .s) (whole (a .input .now)) (length (a .out .now)),
+        (subst (λ (n : ℕ). EndsFitting (a .input .now) 0 n (c .next-fitting .result)) z (c .next-fitting .ensures), (omega arith, refl)),
+      ),
     )
 
 add-next : tie.Need-add-next Inv-loop μ-loop
 add-next c = search needs
 
 slice-aggregate-answer-at : tie.Need-slice-aggregate-answer-at Inv-loop μ-loop
-slice-aggregate-answer-at c = sym (c .before .before .before .loop .inv .1 .1 .1)
+slice-aggregate-answer-at c = sym (c .before .before .loop .inv .1 .1 .1 .1)
 
 answer-at-requires : tie.Need-answer-at-requires Inv-loop μ-loop
-answer-at-requires c κs = search needs
+answer-at-requires c κs =
+    let l = c .before .before .before .loop in
+    let h = c .before .before .loop-test .taken in
+    let ends = l .inv .1 .1 .0 in (
+      omega (arith, ends .found h),
+      (omega (arith, h), (l .inv .1 .1 .1 .1, omega (arith, ends .fits h, l .inv .0 .long, l .inv .1 .1 .1 .0))),
+    )
 
 add-written : tie.Need-add-written Inv-loop μ-loop
+unfolding replyLine
 add-written c =
-    let turn = c .before .before .before .before .before .before .before .before in
-    omega (arith, c .before .before .before .before .before .before .if1 .left, turn .loop .inv .1 .1 .0, turn .loop .inv .0 .long, c .slice-known2 .given 1)
+    let h = c .before .before .before .before .before .before .before .before .loop-test .taken in
+    let l = c .before .before .before .before .before .before .before .before .before .loop in
+    let a = c .before .before .before .before .before .before .before .before .before .before .before .before .before .args in
+    let line = take (l .end - l .used) (drop (l .used) (a .input .now)) in
+    let wide : c .before .before .before .before .before .answer-at .result .width ≡ length (replyLine (l .supervisor) line) = ap (λ (x : LineReplied). x .width) (c .before .before .before .before .before .answer-at .ensures .0) in
+    omega (arith, wide, line-fits (l .supervisor) line, l .inv .1 .1 .0 .fits h, c .before .before .before .before .before .before .before .before .before .before .before .before .before .good .1 .1 .0 .0)
+
+add-written-2 : tie.Need-add-written-2 Inv-loop μ-loop
+unfolding replyLine
+add-written-2 c =
+    let h = c .before .before .before .before .before .before .before .before .loop-test .taken in
+    let l = c .before .before .before .before .before .before .before .before .before .loop in
+    let a = c .before .before .before .before .before .before .before .before .before .before .before .before .before .args in
+    let line = take (l .end - l .used) (drop (l .used) (a .input .now)) in
+    let wide : c .before .before .before .before .before .answer-at .result .width ≡ length (replyLine (l .supervisor) line) = ap (λ (x : LineReplied). x .width) (c .before .before .before .before .before .answer-at .ensures .0) in
+    omega (arith, wide, line-fits (l .supervisor) line, l .inv .1 .1 .0 .fits h, l .inv .1 .1 .1 .0, c .before .before .before .before .before .before .before .before .before .before .before .before .before .good .1 .1 .0 .0)
 
 add-lines : tie.Need-add-lines Inv-loop μ-loop
 add-lines c =
-    let turn = c .before .before .before .before .before .before .before .before in
-    omega (arith, turn .loop .inv .0 .most, whole-most (turn .before .before .before .before .args .input .now))
+    let l = c .before .before .before .before .before .before .before .before .before .loop in
+    omega (arith, l .inv .0 .most, going-more _ _ _ _ _ _ _ _ _ _ _ (l .inv .0) (l .inv .1 .1 .0 .found (c .before .before .before .before .before .before .before .before .loop-test .taken)) (c .before .before .before .before .before .before .before .before .loop-test .taken), whole-most (c .before .before .before .before .before .before .before .before .before .before .before .before .before .args .input .now), c .before .before .before .before .before .before .before .before .before .before .before .before .before .good .1 .0 .0)
 
-find-newline-requires-2 : tie.Need-find-newline-requires-2 Inv-loop μ-loop
-find-newline-requires-2 c κs = search needs
+sub-next-fitting : tie.Need-sub-next-fitting Inv-loop μ-loop
+unfolding replyLine
+sub-next-fitting c =
+    let h = c .before .before .before .before .before .before .before .before .loop-test .taken in
+    let l = c .before .before .before .before .before .before .before .before .before .loop in
+    let a = c .before .before .before .before .before .before .before .before .before .before .before .before .before .args in
+    let line = take (l .end - l .used) (drop (l .used) (a .input .now)) in
+    let wide : c .before .before .before .before .before .answer-at .result .width ≡ length (replyLine (l .supervisor) line) = ap (λ (x : LineReplied). x .width) (c .before .before .before .before .before .answer-at .ensures .0) in
+    omega (arith, wide, line-fits (l .supervisor) line, l .inv .1 .1 .0 .fits h, l .inv .1 .1 .1 .0, l .inv .0 .long, c .before .before .before .before .before .answer-at .kept .1 .1 .1 .1 .1 .0)
+
+next-fitting-requires-2 : tie.Need-next-fitting-requires-2 Inv-loop μ-loop
+next-fitting-requires-2 c κs = search needs
 
 loop-less : tie.Need-loop-less Inv-loop μ-loop
-loop-less c = omega arith
+loop-less c = omega (arith, c .before .before .before .before .before .before .before .before .before .loop-test .taken, c .before .before .before .before .before .before .before .before .before .before .loop .inv .1 .1 .0 .found (c .before .before .before .before .before .before .before .before .before .loop-test .taken))
 
 loop-again : tie.Need-loop-again Inv-loop μ-loop
+unfolding afterLine replyLine
 loop-again c =
-    let head = c .before .before .before .before .before .before .before .before .before in
-    let a = head .before .before .before .before .args in
-    let l = head .loop in
-    let call = c .before .before .before .before .answer-at in
-    let line = take (l .end - l .used) (drop (l .used) (a .input .now)) in (
-      going-next afterLine replyLine (a .s) (a .input .now) (a .out .now) (l .supervisor) (l .used) (l .written) (l .lines) (l .end) (l .out) (call .result) (l .written + replyWidth)
-          (call .last .1 .1 .1 .1 .1 .0) (l .inv .0) (l .inv .1 .0) (c .before .before .before .before .before .before .before .before .loop-test .taken) (call .ensures .0) (call .ensures .1)
-          (call .kept .1 .1 .1 .1 .1 .0) (omega (arith, length-reply (l .supervisor) line)),
+    let a = c .before .before .before .before .before .before .before .before .before .before .before .before .before .before .args in
+    let l = c .before .before .before .before .before .before .before .before .before .before .loop in
+    let h = c .before .before .before .before .before .before .before .before .before .loop-test .taken in
+    let call = c .before .before .before .before .before .before .answer-at in
+    let line = take (l .end - l .used) (drop (l .used) (a .input .now)) in
+    let ends = l .inv .1 .1 .0 in
+    let next = call .last .1 .1 .1 .1 .1 .0 in
+    let at = l .written + (call .result .width + 1) in
+    let is-after : call .result .supervisor ≡ afterLine (l .supervisor) line = ap (λ (x : LineReplied). x .supervisor) (call .ensures .0) in
+    let more : at ≡ l .written + (length (replyLine (l .supervisor) line) + 1) = ap (λ (x : LineReplied). l .written + (x .width + 1)) (call .ensures .0) in
+    let long : length next ≡ length (a .out .now) = call .kept .1 .1 .1 .1 .1 .0 ∙ l .inv .0 .long in (
+      going-next afterLine replyLine (a .s) (a .input .now) (a .out .now) (l .supervisor) (l .used) (l .written) (l .lines) (l .end) (l .out) (call .result .supervisor) at
+          next (l .inv .0) (ends .found h) h is-after (call .ensures .1) (call .kept .1 .1 .1 .1 .1 .0) more,
       (
-        c .find-newline2 .ensures,
-        (omega (arith, c .before .before .before .before .before .before .before .if1 .left, l .inv .1 .1 .0, l .inv .0 .long), call .kept .1 .1 .1 .1 .0 ∙ l .inv .1 .1 .1),
+        fits-next afterLine replyLine needOf (a .s) (a .input .now) (a .out .now) (l .supervisor) (l .used) (l .written) (l .lines) (l .out) (l .inv .0) (l .inv .1 .0)
+            (l .end) (call .result .supervisor) at (ends .found h) h (ends .fits h) is-after more,
+        (
+          subst (λ (n : ℕ). EndsFitting (a .input .now) (l .end + 1) (n - at) (c .next-fitting2 .result)) long (c .next-fitting2 .ensures),
+          (omega (arith, more, line-fits (l .supervisor) line, ends .fits h, l .inv .1 .1 .1 .0), call .kept .1 .1 .1 .1 .0 ∙ l .inv .1 .1 .1 .1),
+        ),
       ),
     )
 
-same-length-2 : tie.Need-same-length-2 Inv-loop μ-loop
-same-length-2 c = search needs
+same-length : tie.Need-same-length Inv-loop μ-loop
+same-length c = search needs
 
-returns-2 : tie.Need-returns-2 Inv-loop μ-loop
-returns-2 c =
+returns : tie.Need-returns Inv-loop μ-loop
+returns c =
     let a = c .before .before .before .before .before .args in
     let l = c .before .loop in
     let g = l .inv .0 in
-    let stop : l .lines < length (whole (a .input .now)) → length (a .out .now) < l .written + replyWidth = λ h. omega (arith, going-last _ _ _ _ _ _ _ _ _ _ _ g (l .inv .1 .0) (c .loop-test .left)) in (
-      lines-progress (a .s) (a .input .now) (a .out .now) (l .supervisor) (l .used) (l .written) (l .lines) (l .out) g (l .inv .1 .1 .0) stop,
-      (lines-buffer (a .s) (a .input .now) (a .out .now) (l .supervisor) (l .used) (l .written) (l .lines) (l .out) g (l .inv .1 .1 .0) stop, refl),
+    let all =
+    fits-last afterLine replyLine needOf (a .s) (a .input .now) (a .out .now) (l .supervisor) (l .used) (l .written) (l .lines) (l .out) g (l .inv .1 .0)
+    (l .inv .1 .1 .0 .none (c .loop-test .left) (l .supervisor)) in (
+      lines-progress (a .s) (a .input .now) (a .out .now) (l .supervisor) (l .used) (l .written) (l .lines) (l .out) g all,
+      (lines-buffer (a .s) (a .input .now) (a .out .now) (l .supervisor) (l .used) (l .written) (l .lines) (l .out) g all, refl),
     )
 
 pub answer-lines-spec : {M : Type 1} → statement M
@@ -102,18 +142,17 @@ answer-lines-spec =
     (tie.spec
     Inv-loop
     μ-loop
-    find-newline-requires
+    next-fitting-requires
     loop-holds
-    sub-if1
-    same-length
-    returns
     add-next
     slice-aggregate-answer-at
     answer-at-requires
     add-written
+    add-written-2
     add-lines
-    find-newline-requires-2
+    sub-next-fitting
+    next-fitting-requires-2
     loop-less
     loop-again
-    same-length-2
-    returns-2)
+    same-length
+    returns)

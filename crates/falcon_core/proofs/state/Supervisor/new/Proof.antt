@@ -9,9 +9,12 @@ origin-requires c κs = search needs
 opened-requires : tie.Need-opened-requires
 opened-requires c κs = search needs
 
+no-points-requires : tie.Need-no-points-requires
+no-points-requires c κs = search needs
+
 returns : tie.Need-returns
 unfolding unopened
-returns c = simp (c .opened .ensures, c .before .origin .ensures)
+returns c = simp (c .no-points .ensures, c .before .opened .ensures, c .before .before .origin .ensures)
 
 pub new-spec : {M : Type 1} → statement M
-new-spec = tie.close (tie.spec origin-requires opened-requires returns)
+new-spec = tie.close (tie.spec origin-requires opened-requires no-points-requires returns)

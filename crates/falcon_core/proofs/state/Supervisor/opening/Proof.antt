@@ -11,6 +11,9 @@ refused-requires c = search needs
 returns : tie.Need-returns
 returns c = c .refused .ensures ∙ masks-refused (c .before .before .before .before .args .self) (opens (c .before .before .before .before .args .o)) refl (c .before .if1 .taken)
 
+no-points-requires : tie.Need-no-points-requires
+no-points-requires c = search needs
+
 opened-requires : tie.Need-opened-requires
 opened-requires c = search needs
 
@@ -18,8 +21,8 @@ accepted-requires : tie.Need-accepted-requires
 accepted-requires c = search needs
 
 returns-2 : tie.Need-returns-2
-returns-2 c = c .accepted .ensures ∙ opening-accepted (c .before .before .before .before .before .args .self) (c .before .before .before .before .before .args .o) _ (c .before .opened .ensures) (c .before .before .if1 .left)
+returns-2 c = c .accepted .ensures ∙ opening-accepted (c .before .before .before .before .before .before .args .self) (c .before .before .before .before .before .before .args .o) _ _ (c .before .opened .ensures) (c .before .before .no-points .ensures) (c .before .before .before .if1 .left)
 
 pub opening-spec : {M : Type 1} → statement M
 opening-spec =
-    tie.close (tie.spec refused-requires returns opened-requires accepted-requires returns-2)
+    tie.close (tie.spec refused-requires returns no-points-requires opened-requires accepted-requires returns-2)

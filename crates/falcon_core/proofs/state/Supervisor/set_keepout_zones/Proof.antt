@@ -5,7 +5,7 @@ use mathlib.Core.Bool.{not}
 use mathlib.Core.Path.{refl, ap, _∙_}
 use Prim.Native.Nat.{_%_}
 use lib.ListN.{length}
-use Rattle.falcon_core.specs.Calls.{zones}
+use Rattle.falcon_core.specs.Calls.{plans, zones}
 use Rattle.falcon_core.proofs.Answers.{count-refused, unopened-refused, due-refused, zones-accepted}
 use Rattle.falcon_core.proofs.state.Supervisor.set_keepout_zones.Statement.{statement}
 use Rattle.falcon_core.proofs.state.Supervisor.set_keepout_zones.Tie as tie
@@ -14,19 +14,19 @@ refused-requires : tie.Need-refused-requires
 refused-requires c κs = search needs
 
 returns : tie.Need-returns
-returns c = (c .refused .ensures ∙ count-refused (c .before .before .before .args .self) (zones (c .before .before .before .args .lent .now)) (ap not (ne-eqb (length (c .before .before .before .args .lent .now) % 4) 0 (c .before .if1 .taken))), refl)
+returns c = (c .refused .ensures ∙ count-refused (c .before .before .before .args .self) (plans (zones (c .before .before .before .args .lent .now))) (ap not (ne-eqb (length (c .before .before .before .args .lent .now) % 4) 0 (c .before .if1 .taken))), refl)
 
 refused-requires-2 : tie.Need-refused-requires-2
 refused-requires-2 c κs = search needs
 
 returns-2 : tie.Need-returns-2
-returns-2 c = (c .refused2 .ensures ∙ unopened-refused (c .before .before .before .before .before .args .self) (zones (c .before .before .before .before .before .args .lent .now)) (ap not (eq-eqb (length (c .before .before .before .before .before .args .lent .now) % 4) 0 (c .before .before .before .if1 .left))) refl refl (c .before .if2 .taken), refl)
+returns-2 c = (c .refused2 .ensures ∙ unopened-refused (c .before .before .before .before .before .args .self) (plans (zones (c .before .before .before .before .before .args .lent .now))) (ap not (eq-eqb (length (c .before .before .before .before .before .args .lent .now) % 4) 0 (c .before .before .before .if1 .left))) refl refl (c .before .if2 .taken), refl)
 
 refused-requires-3 : tie.Need-refused-requires-3
 refused-requires-3 c κs = search needs
 
 returns-3 : tie.Need-returns-3
-returns-3 c = (c .refused3 .ensures ∙ due-refused (c .before .before .before .before .before .before .args .self) (zones (c .before .before .before .before .before .before .args .lent .now)) (ap not (eq-eqb (length (c .before .before .before .before .before .before .args .lent .now) % 4) 0 (c .before .before .before .before .if1 .left))) refl refl refl (c .before .before .if2 .left) (c .before .if3 .taken), refl)
+returns-3 c = (c .refused3 .ensures ∙ due-refused (c .before .before .before .before .before .before .args .self) (plans (zones (c .before .before .before .before .before .before .args .lent .now))) (ap not (eq-eqb (length (c .before .before .before .before .before .before .args .lent .now) % 4) 0 (c .before .before .before .before .if1 .left))) refl refl refl (c .before .before .if2 .left) (c .before .if3 .taken), refl)
 
 loaded-zones-requires : tie.Need-loaded-zones-requires
 loaded-zones-requires c κs = search needs

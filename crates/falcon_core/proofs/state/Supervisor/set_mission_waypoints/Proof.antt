@@ -3,7 +3,7 @@ use mathlib.Core.Path.{refl, ap, _∙_}
 use Rattle.falcon_core.proofs.Answers.{count-refused, unopened-refused, due-refused, point-refused, points-accepted}
 use Prim.Native.Nat.{_%_}
 use lib.ListN.{length}
-use Rattle.falcon_core.specs.Calls.{points}
+use Rattle.falcon_core.specs.Calls.{plans, points}
 use borrow.Author.Tests.{eq-eqb, ne-eqb}
 use borrow.Author.Needs.{needs}
 use Rattle.falcon_core.proofs.state.Supervisor.set_mission_waypoints.Statement.{statement}
@@ -13,19 +13,19 @@ refused-requires : tie.Need-refused-requires
 refused-requires c κs = search needs
 
 returns : tie.Need-returns
-returns c = (c .refused .ensures ∙ count-refused (c .before .before .before .args .self) (points (c .before .before .before .args .lent .now)) (ap not (ne-eqb (length (c .before .before .before .args .lent .now) % 3) 0 (c .before .if1 .taken))), refl)
+returns c = (c .refused .ensures ∙ count-refused (c .before .before .before .args .self) (plans (points (c .before .before .before .args .lent .now))) (ap not (ne-eqb (length (c .before .before .before .args .lent .now) % 3) 0 (c .before .if1 .taken))), refl)
 
 refused-requires-2 : tie.Need-refused-requires-2
 refused-requires-2 c κs = search needs
 
 returns-2 : tie.Need-returns-2
-returns-2 c = (c .refused2 .ensures ∙ unopened-refused (c .before .before .before .before .before .args .self) (points (c .before .before .before .before .before .args .lent .now)) (ap not (eq-eqb (length (c .before .before .before .before .before .args .lent .now) % 3) 0 (c .before .before .before .if1 .left))) refl refl (c .before .if2 .taken), refl)
+returns-2 c = (c .refused2 .ensures ∙ unopened-refused (c .before .before .before .before .before .args .self) (plans (points (c .before .before .before .before .before .args .lent .now))) (ap not (eq-eqb (length (c .before .before .before .before .before .args .lent .now) % 3) 0 (c .before .before .before .if1 .left))) refl refl (c .before .if2 .taken), refl)
 
 refused-requires-3 : tie.Need-refused-requires-3
 refused-requires-3 c κs = search needs
 
 returns-3 : tie.Need-returns-3
-returns-3 c = (c .refused3 .ensures ∙ due-refused (c .before .before .before .before .before .before .args .self) (points (c .before .before .before .before .before .before .args .lent .now)) (ap not (eq-eqb (length (c .before .before .before .before .before .before .args .lent .now) % 3) 0 (c .before .before .before .before .if1 .left))) refl refl refl (c .before .before .if2 .left) (c .before .if3 .taken), refl)
+returns-3 c = (c .refused3 .ensures ∙ due-refused (c .before .before .before .before .before .before .args .self) (plans (points (c .before .before .before .before .before .before .args .lent .now))) (ap not (eq-eqb (length (c .before .before .before .before .before .before .args .lent .now) % 3) 0 (c .before .before .before .before .if1 .left))) refl refl refl (c .before .before .if2 .left) (c .before .if3 .taken), refl)
 
 tried-admissible-requires : tie.Need-tried-admissible-requires
 tried-admissible-requires c κs = search needs
@@ -39,14 +39,17 @@ returns-4 c = (c .refused4 .ensures ∙ point-refused (c .before .before .before
 loaded-requires : tie.Need-loaded-requires
 loaded-requires c κs = search needs
 
+loaded-points-requires : tie.Need-loaded-points-requires
+loaded-points-requires c κs = search needs
+
 accepted-requires : tie.Need-accepted-requires
 accepted-requires c κs = search needs
 
 returns-5 : tie.Need-returns-5
 returns-5 c = (
   c .accepted .ensures
-      ∙ points-accepted (c .before .before .before .before .before .before .before .before .before .before .before .args .self) (c .before .before .before .before .before .before .before .before .before .before .before .args .lent .now) _ _ (c .before .before .loaded .ensures) (c .before .before .before .before .tried-admissible .ensures)
-      (eq-eqb (length (c .before .before .before .before .before .before .before .before .before .before .before .args .lent .now) % 3) 0 (c .before .before .before .before .before .before .before .before .before .if1 .left)) (c .before .before .before .before .before .before .before .if2 .left) (c .before .before .before .before .before .before .if3 .left) (c .before .before .before .if4 .left),
+      ∙ points-accepted (c .before .before .before .before .before .before .before .before .before .before .before .before .args .self) (c .before .before .before .before .before .before .before .before .before .before .before .before .args .lent .now) _ _ _ (c .before .before .before .loaded .ensures) (c .before .before .loaded-points .ensures) (c .before .before .before .before .before .tried-admissible .ensures)
+      (eq-eqb (length (c .before .before .before .before .before .before .before .before .before .before .before .before .args .lent .now) % 3) 0 (c .before .before .before .before .before .before .before .before .before .before .if1 .left)) (c .before .before .before .before .before .before .before .before .if2 .left) (c .before .before .before .before .before .before .before .if3 .left) (c .before .before .before .before .if4 .left),
   refl,
 )
 
@@ -64,5 +67,6 @@ set-mission-waypoints-spec =
     refused-requires-4
     returns-4
     loaded-requires
+    loaded-points-requires
     accepted-requires
     returns-5)

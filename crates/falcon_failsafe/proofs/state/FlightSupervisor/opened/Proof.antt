@@ -9,18 +9,14 @@ use Rattle.relay_batt.specs.Battery.{openedOf as openedBatteryOf}
 use Rattle.relay_batt.specs.Config.{forOpeningVoltsOf}
 use Rattle.relay_preflight.specs.declared.CheckTable.{CheckTable}
 use Rattle.relay_preflight.specs.Table.{newOf, legacyPassedOf}
-use Rattle.falcon_guidance.specs.declared.state.Point.{Point}
 use Rattle.falcon_guidance.specs.declared.state.Zone.{Zone}
-use Rattle.falcon_guidance.specs.State.{zerof, origin, noZone, maxWaypoints, maxKeepoutZones}
+use Rattle.falcon_guidance.specs.State.{zerof, noZone, maxKeepoutZones}
 use Rattle.falcon_failsafe.specs.declared.state.Opening.{Opening}
 use Rattle.falcon_failsafe.specs.declared.state.FlightSupervisor.{FlightSupervisor}
 use Rattle.falcon_failsafe.specs.State.{openedOf}
 use borrow.Author.Needs.{needs}
 use Rattle.falcon_failsafe.proofs.state.FlightSupervisor.opened.Statement.{statement}
 use Rattle.falcon_failsafe.proofs.state.FlightSupervisor.opened.Tie as tie
-
-origin-requires : tie.Need-origin-requires
-origin-requires c κs = search needs
 
 none-requires : tie.Need-none-requires
 none-requires c κs = search needs
@@ -42,8 +38,7 @@ legacy-passed-requires c κs = search needs
 
 -- the facts of the calls, put together
 joined :
-    (o : Opening) {point : Point} {zone : Zone} {masks table : CheckTable} {fsm : FlightFsm} {cfg : BattConfig} {battery : Battery} →
-    point ≡ origin →
+    (o : Opening) {zone : Zone} {masks table : CheckTable} {fsm : FlightFsm} {cfg : BattConfig} {battery : Battery} →
     zone ≡ noZone →
     masks ≡ newOf (o .required) (o .passed) →
     fsm ≡ record { mode = Disarmed } →
@@ -62,7 +57,7 @@ joined :
           };
       fsm = fsm;
       battery = battery;
-      mission = record { waypoints = replicate maxWaypoints point; «wp_count» = 0; «wp_index» = 0 };
+      mission = record { «wp_count» = 0; «wp_index» = 0 };
       zones = record { zones = replicate maxKeepoutZones zone; «zone_count» = 0 };
       hold =
           record {
@@ -79,13 +74,12 @@ joined :
     })
     (openedOf o)
 unfolding openedOf
-joined o point zone masks fsm cfg battery table = simp (table, battery, cfg, fsm, masks, zone, point)
+joined o zone masks fsm cfg battery table = simp (table, battery, cfg, fsm, masks, zone)
 
 returns : tie.Need-returns
 returns c =
     joined
-    (c .before .before .before .before .before .before .before .before .args .o)
-    (c .before .before .before .before .before .before .origin .ensures)
+    (c .before .before .before .before .before .before .before .args .o)
     (c .before .before .before .before .before .none .ensures)
     (c .before .before .before .before .new .ensures)
     (c .before .before .before .new2 .ensures)
@@ -97,7 +91,6 @@ pub opened-spec : {M : Type 1} → statement M
 opened-spec =
     tie.close
     (tie.spec
-    origin-requires
     none-requires
     new-requires
     new-requires-2

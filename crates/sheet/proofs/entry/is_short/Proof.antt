@@ -1,0 +1,28 @@
+use native.Mathlib.Omega.{arith}
+use mathlib.Core.Path.{sym, ap}
+use lib.Dec.{ltb}
+use borrow.Author.Tests.{le-ltb}
+use Rattle.call_lists.specs.Entry.{needOf}
+use Rattle.call_lists.proofs.Buffer.{needs-most}
+use borrow.Author.Needs.{needs}
+use Rattle.sheet.proofs.entry.is_short.Statement.{statement}
+use Rattle.sheet.proofs.entry.is_short.Tie as tie
+
+returns : tie.Need-returns
+returns c =
+    let a = c .before .before .args in
+    sym (le-ltb (a .room) (needOf (a .line .now)) (omega (arith, needs-most (a .line .now), c .if1 .taken)))
+
+need-of-requires : tie.Need-need-of-requires
+need-of-requires c κs = search needs
+
+returns-2 : tie.Need-returns-2
+returns-2 c = ap (ltb (c .before .before .before .args .room)) (c .need-of .ensures)
+
+pub is-short-spec : {M : Type 1} → statement M
+is-short-spec =
+    tie.close
+    (tie.spec
+    returns
+    need-of-requires
+    returns-2)
