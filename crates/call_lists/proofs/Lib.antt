@@ -1,5 +1,3 @@
-pub mod Answer
-pub mod Buffer
 pub mod CallSeen
 pub mod PlaceHolds
 pub mod DemandThree

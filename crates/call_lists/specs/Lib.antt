@@ -1,3 +1,2 @@
-pub mod Entry
 pub mod Lists
 pub mod Demand3

@@ -14,7 +14,7 @@ use Rattle.falcon_core.specs.declared.calls.Answered.{Answered}
 use Rattle.falcon_core.specs.State.{unopened}
 use Rattle.falcon_core.specs.Calls.{Request, opens, ticks, reports, commands, plans, startOf}
 use Rattle.requests.specs.Kinds.{Asked, refuses, asks, answeredBy}
-use Rattle.call_lists.specs.Entry.{askedWith}
+use Rattle.requests.specs.ByLine.{askedWith}
 
 -- "by line or by lent values": a line with its answer buffer in full, or what is asked by values
 pub data Call : Type 0 where

@@ -1,1 +1,7 @@
-// Calls by line and lists of calls: definitions, and the laws of demand 3. Crate sheet has the functions.
+// Lists of calls: definitions, and the theorem about every such list.
+ghost use Rattle.call_lists.specs.Demand3.{Demand3};
+
+// The two-tick, rank and fifty-tick rules hold of every list of calls.
+pub fn demand_three()
+    ensures { λ _. ⌜ Demand3 ⌝ }
+{}

@@ -9,8 +9,8 @@ use lib.Seq.{take-all}
 use Rattle.falcon_core.specs.declared.state.Supervisor.{Supervisor}
 use Rattle.sheet.specs.declared.many.Progress.{Progress}
 use Rattle.sheet.specs.Lines.{whole, joined, statesAfter}
-use Rattle.call_lists.specs.Entry.{needOf}
-use Rattle.call_lists.proofs.Buffer.{needs-most}
+use Rattle.requests.specs.ByLine.{needOf}
+use Rattle.requests.proofs.Buffer.{needs-most}
 use Rattle.sheet.specs.Many.{replyMost, afterLine, replyLine, fittingRoom, fitting, replies, progressOf}
 use Rattle.sheet.proofs.LinesAgain.{joined-append, whole-most, whole-off, used-most}
 use Rattle.sheet.proofs.LinesCut.{states-append}

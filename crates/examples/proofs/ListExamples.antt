@@ -36,7 +36,7 @@ use Rattle.falcon_failsafe.specs.State.{openedOf as stateOpenedOf}
 use Rattle.falcon_core.specs.State.{unopened}
 use Rattle.falcon_flight.specs.Tick.{checkedOf, poweredOf, telemetryOf, sensedOf, afterBreach, afterRunaway, afterWind, afterMilestone, holdingOf, answeredOf, endedOf, tickOf, givenOf}
 use Rattle.falcon_guidance.specs.Zones.{goalOf, bearingOf, alongOf, perpOf, obstructsOf, threatensOf, tangentOf, urgencyOf, ringOf, deflectedOf, aroundOf, aroundAllOf, avoidOf, zoneAtOf, keptOf as zonesKeptOf, storedZonesOf, loadedZonesOf}
-use Rattle.call_lists.specs.Entry.{needFields, needOf, extraOf, replyNumbers, askedWith, lineStep, replyOf, bufferAfter}
+use Rattle.requests.specs.ByLine.{needFields, needOf, extraOf, replyNumbers, askedWith, lineStep, replyOf, bufferAfter}
 use Rattle.requests.specs.Line.{limitFields, readingLine, askedLine}
 use Rattle.columns.specs.Field.{inRange, digits, start as fieldStart, spaced, readField, kindOf, column, columns, fieldOf, put}
 use Rattle.requests.specs.Kinds.{openingFrom, openingLine, readingFrom, batteryOk, tickFrom, tickOk, tickLine, reportLine, commandLine, pointsLine, zonesLine, requestOf}

@@ -25,7 +25,7 @@ use Rattle.falcon_failsafe.specs.declared.state.Opening.{Opening}
 use Rattle.falcon_failsafe.specs.State.{openedOf}
 use Rattle.falcon_failsafe.specs.Failsafe.{reportedOf}
 use Rattle.falcon_core.specs.Calls.{Request, opens, ticks, reports, commands, plans, points, zones, miscounted, masksTooLarge, isOpening, isReport}
-use Rattle.falcon_core.specs.Calls.{noOpening, wrongCount, outOfRange, reportDue, noReportDue, inadmissible}
+use Rattle.falcon_core.specs.Refusals.{noOpening, wrongCount, outOfRange, reportDue, noReportDue, inadmissible}
 use Rattle.falcon_core.specs.Calls.{commandedBy, dueAfter, refusalOf, legsIn, startOf, startPoints, plannedOf, flightAfter, waypointsAfter, outputOf, afterOf, refusedOf, acceptedOf, stepOf}
 
 -- a refusal that fits is answered and keeps the state

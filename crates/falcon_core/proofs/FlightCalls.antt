@@ -13,7 +13,8 @@ use Rattle.falcon_flight.specs.Tick.{tickOf}
 use Rattle.falcon_core.specs.declared.state.Supervisor.{Supervisor}
 use Rattle.falcon_core.specs.declared.calls.FlightAnswered.{FlightAnswered}
 use Rattle.falcon_core.specs.declared.calls.Output.the-variants.{Nothing, Ticks}
-use Rattle.falcon_core.specs.Calls.{Request, ticks, reports, commands, isReport, noOpening, reportDue, noReportDue, dueAfter, commandedBy, refusalOf, legsIn, flightAfter, waypointsAfter, outputOf, afterOf}
+use Rattle.falcon_core.specs.Refusals.{noOpening, reportDue, noReportDue}
+use Rattle.falcon_core.specs.Calls.{Request, ticks, reports, commands, isReport, dueAfter, commandedBy, refusalOf, legsIn, flightAfter, waypointsAfter, outputOf, afterOf}
 use Rattle.falcon_core.specs.Calls.{refusedOf, acceptedOf, stepOf, flightRefusal, keptOf, movedOf, noLegs, flightStepOf, besideOf}
 use Rattle.falcon_core.proofs.Answers.{step-refused, step-accepted}
 

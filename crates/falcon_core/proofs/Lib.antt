@@ -13,3 +13,4 @@ pub mod Invariant
 pub mod SoundTest
 pub mod Fits
 pub mod Battery
+pub mod Numbers

@@ -33,6 +33,7 @@ use Rattle.falcon_guidance.specs.Mission.{noPoints, triedOf, allAdmissibleOf, l
 use Rattle.falcon_guidance.specs.Zones.{loadedZonesOf}
 use Rattle.falcon_failsafe.specs.Failsafe.{reportedOf}
 use Rattle.falcon_flight.specs.Tick.{tickOf}
+use Rattle.falcon_core.specs.Refusals.{orElse, wrongCount, outOfRange, noOpening, reportDue, noReportDue, inadmissible}
 
 -- what the planner asks between ticks: points (three numbers each) or zones (four numbers each). It leaves the mode, the battery, the counts and the
 -- configuration as they are
@@ -47,25 +48,6 @@ pub data Request : Type 0 where
   reports : Bool → Request
   commands : Event → Bool → Bool → Request
   plans : Planning → Request
-
--- the refusals' numbers in document 01's table; 0 is accepted
-abbrev pub noOpening : ℕ
-noOpening = 1
-
-abbrev pub wrongCount : ℕ
-wrongCount = 4
-
-abbrev pub outOfRange : ℕ
-outOfRange = 5
-
-abbrev pub reportDue : ℕ
-reportDue = 6
-
-abbrev pub noReportDue : ℕ
-noReportDue = 7
-
-abbrev pub inadmissible : ℕ
-inadmissible = 8
 
 -- 4: "lent points not 3 each, zones not 4 each"
 abbrev pub miscountedPlan : Planning → Bool
@@ -271,6 +253,10 @@ outputNumbers Nothing = 0 ∷ 0 ∷ 0 ∷ 0 ∷ 0 ∷ 0 ∷ []
 outputNumbers (Ticks MotorsOff) = 0 ∷ 1 ∷ 0 ∷ 0 ∷ 0 ∷ 0 ∷ []
 outputNumbers (Ticks (Setpoint ned landing rearm)) =
     flag landing ∷ 0 ∷ flag rearm ∷ toBits binary32 (ned .x) ∷ toBits binary32 (ned .y) ∷ toBits binary32 (ned .z) ∷ []
+
+-- "Answer, ten fields"
+abbrev pub answerFields : ℕ
+answerFields = 10
 
 -- "Answer, ten fields: refusal, mode, landing, motors off, rearm, setpoint (three), outstanding, first blocker (21 if none)"
 unfoldable pub numbersOf : Answer → List ℕ

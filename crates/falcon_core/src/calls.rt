@@ -53,14 +53,23 @@ pub struct FlightAnswered {
 }
 
 impl Answer {
-    // No refusal.
+    // The numbers of an answer line.
+    pub const FIELDS: usize = 10;
+
+    // The refusals, in the order in which they are tried; 0 is accepted.
     pub const ACCEPTED: u32 = 0;
-    // No opening yet.
-    pub const NO_OPENING: u32 = 1;
-    // Lent points not three each, or zones not four each.
+    // The answer buffer is too short.
+    pub const SHORT_BUFFER: u32 = 9;
+    // Not a sheet line.
+    pub const NOT_A_LINE: u32 = 2;
+    // The kind is not 1..6.
+    pub const UNKNOWN_KIND: u32 = 3;
+    // A wrong field count; lent points not three each, or zones not four each.
     pub const WRONG_COUNT: u32 = 4;
-    // A mask of 2^21 or more.
+    // An event, a flag, a battery number or a mask out of its range, or volts or amps where none are said.
     pub const OUT_OF_RANGE: u32 = 5;
+    // No opening yet. From here on a refusal needs the state.
+    pub const NO_OPENING: u32 = 1;
     // A report is due, and the call is no report or opening.
     pub const REPORT_DUE: u32 = 6;
     // A report, and none is due.
@@ -69,7 +78,7 @@ impl Answer {
     pub const INADMISSIBLE: u32 = 8;
 
     // The ten numbers of an answer line.
-    pub fn numbers(self) -> [u32; 10]
+    pub fn numbers(self) -> [u32; Answer::FIELDS]
         ensures { λ r. ⌜ r ≡ numbersOf self ⌝ }
     {
         let mode = self.mode;

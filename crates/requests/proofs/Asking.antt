@@ -16,7 +16,8 @@ use Rattle.falcon_core.specs.Calls.{plans, points, zones}
 use Rattle.requests.specs.declared.kinds.Kind.{Kind}
 use Rattle.requests.specs.declared.kinds.Kind.the-variants.{Refused, Opens, Ticks, Reports, Commands, Points, Zones}
 use Rattle.requests.specs.Kinds.{Asked, refuses, asks, numberAt, requestOf, listLine, listFloats, Says}
-use Rattle.requests.specs.Line.{notALine, askedBy, limitFields, mostFields, readingLine}
+use Rattle.falcon_core.specs.Refusals.{notALine}
+use Rattle.requests.specs.Line.{askedBy, limitFields, mostFields, readingLine}
 
 -- ---- the limit of a line
 

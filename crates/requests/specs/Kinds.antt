@@ -19,7 +19,8 @@ use Rattle.falcon_core.specs.declared.calls.Answered.{Answered}
 use Rattle.requests.specs.declared.kinds.Kind.{Kind}
 use Rattle.requests.specs.declared.kinds.Kind.the-variants.{Refused, Opens, Ticks, Reports, Commands, Points, Zones}
 use Rattle.falcon_guidance.specs.State.{pointOf}
-use Rattle.falcon_core.specs.Calls.{Request, opens, ticks, reports, commands, plans, points, zones, wrongCount, outOfRange, refusedOf, stepOf}
+use Rattle.falcon_core.specs.Calls.{Request, opens, ticks, reports, commands, plans, points, zones, refusedOf, stepOf}
+use Rattle.falcon_core.specs.Refusals.{unknownKind, wrongCount, outOfRange}
 
 -- what a line asks, or the refusal that fits it whatever the state
 pub data Asked : Type 0 where
@@ -30,10 +31,6 @@ pub data Asked : Type 0 where
 abbrev pub answeredBy : Supervisor → Asked → Answered
 answeredBy s (refuses n) = refusedOf s n
 answeredBy s (asks r) = stepOf s r
-
--- 3: "kind not 1..6"
-abbrev pub unknownKind : ℕ
-unknownKind = 3
 
 -- number k of a line
 abbrev pub numberAt : List ℕ → ℕ → ℕ

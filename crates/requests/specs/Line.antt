@@ -5,11 +5,8 @@ use Rattle.columns.specs.declared.field.FieldRead.{FieldRead}
 use Rattle.columns.specs.declared.field.FieldRead.the-variants.{Number, Bad}
 use Rattle.columns.specs.Field.{kindOf}
 use Rattle.columns.specs.Line.{Reading, read, broken, lineFields, readWithin}
+use Rattle.falcon_core.specs.Refusals.{notALine}
 use Rattle.requests.specs.Kinds.{Asked, refuses, requestOf}
-
--- 2: "length 0, no multiple of 11, over 1,430, or a bad field"
-abbrev pub notALine : ℕ
-notALine = 2
 
 -- what a line asks once it is read
 abbrev pub askedBy : Reading → Asked

@@ -28,9 +28,6 @@ pub enum Kind {
     Zones,
 }
 
-// 3: the kind is not 1..6.
-pub const UNKNOWN_KIND: u32 = 3;
-
 // Number k as a float.
 fn float_at(ns: &[u32], k: usize) -> f32
     requires { ⌜ k < length (now ns) ⌝ }
@@ -256,5 +253,5 @@ pub(crate) fn kind_of(ns: &[u32]) -> Kind
     if kind == 6 {
         return zones_line(ns);
     }
-    Kind::Refused(UNKNOWN_KIND)
+    Kind::Refused(Answer::UNKNOWN_KIND)
 }

@@ -13,9 +13,7 @@ use columns::field::read_kind;
 use columns::line::LINE_FIELDS;
 use columns::line::LineRead;
 use columns::line::read_line;
-
-// 2: not a sheet line.
-pub const NOT_A_LINE: u32 = 2;
+use falcon_core::calls::Answer;
 
 // The most fields of a line of any kind.
 pub const MOST_FIELDS: usize = LINE_FIELDS;
@@ -47,7 +45,7 @@ pub fn asked(line: &[u8], numbers: &mut [u32]) -> Kind
 {
     let limit = line_limit(line);
     let LineRead::Numbers(count) = read_line(line, limit, numbers) else {
-        return Kind::Refused(NOT_A_LINE);
+        return Kind::Refused(Answer::NOT_A_LINE);
     };
     kind_of(&numbers[..count])
 }

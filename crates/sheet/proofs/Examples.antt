@@ -7,7 +7,7 @@ use lib.Seq.{take-take}
 use lib.Dec.{lit≤}
 use Rattle.columns.specs.declared.field.FieldRead.the-variants.{Number, Bad}
 use Rattle.columns.specs.Field.{fieldWidth, inRange, digits, start, spaced, readField, column, columns, fieldOf, spaces}
-use Rattle.call_lists.specs.Entry.{answerWidth}
+use Rattle.requests.specs.ByLine.{answerWidth}
 use Rattle.columns.specs.Line.{lineFields, read, broken, onto, before, fields, lengthOk, readWithin, readLine, lineOf}
 use Rattle.sheet.specs.Lines.{ahead, whole, joined, rest, lastLine, linesOf, together, answers, statesAfter, stream}
 use Rattle.sheet.proofs.LinesCut.{stream-all}

@@ -16,11 +16,11 @@ use Rattle.columns.specs.Field.{fieldWidth, put}
 use Rattle.columns.specs.Line.{Reading}
 use Rattle.sheet.specs.Lines.{newline, whole, joined, lineEnd, lastLine, linesOf, together, answers, stream}
 use Rattle.requests.specs.Kinds.{answeredBy}
-use Rattle.call_lists.specs.Entry.{answerWidth, needOf, replyOf}
+use Rattle.requests.specs.ByLine.{answerWidth, needOf, replyOf}
 use Rattle.requests.specs.Line.{mostFields, askedBy, askedLine}
 use Rattle.sheet.specs.Many.{afterLine, replyLine, fittingRoom, fitting, EndsFitting, replies, progressOf, answersOver}
 use Rattle.requests.proofs.Asking.{reading-cut}
-use Rattle.call_lists.proofs.Buffer.{reply-width, reply-fits}
+use Rattle.requests.proofs.Buffer.{reply-width, reply-fits}
 use Rattle.sheet.proofs.LinesAgain.{used-most, line-at, line-none}
 use Rattle.sheet.proofs.LinesCut.{stream-all}
 use Rattle.sheet.proofs.LinesTurns.{Going}

@@ -8,7 +8,7 @@ use lib.Seq.{take-all}
 use Rattle.falcon_core.specs.declared.state.Supervisor.{Supervisor}
 use Rattle.sheet.specs.declared.many.Progress.{Progress}
 use Rattle.columns.specs.Field.{put}
-use Rattle.call_lists.specs.Entry.{needOf}
+use Rattle.requests.specs.ByLine.{needOf}
 use Rattle.sheet.specs.Lines.{whole, joined, rest, lineEnd, lastLine, linesOf, statesAfter}
 use Rattle.sheet.specs.Many.{afterLine, replyLine, fittingRoom, fitting, replies, progressOf, answersOver}
 use Rattle.sheet.proofs.LinesAgain.{whole-off, line-at, line-none}

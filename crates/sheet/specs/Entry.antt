@@ -1,7 +1,7 @@
 -- What `answer` gives back, and what it gives many lines.
 use lib.ListN.{length}
 use Rattle.falcon_core.specs.declared.calls.Answered.{Answered}
-use Rattle.call_lists.specs.Entry.{replyOf}
+use Rattle.requests.specs.ByLine.{replyOf}
 use Rattle.sheet.specs.declared.entry.LineAnswered.{LineAnswered}
 use Rattle.sheet.specs.declared.entry.LineReplied.{LineReplied}
 

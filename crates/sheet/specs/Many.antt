@@ -8,7 +8,7 @@ use Rattle.sheet.specs.declared.many.Progress.{Progress}
 use Rattle.sheet.specs.Lines.{whole, joined, lineEnd, answers, statesAfter, fittingIn}
 use Rattle.columns.specs.Field.{fieldWidth}
 use Rattle.requests.specs.Kinds.{answeredBy}
-use Rattle.call_lists.specs.Entry.{mostNeeded, needOf, replyOf}
+use Rattle.requests.specs.ByLine.{mostNeeded, needOf, replyOf}
 use Rattle.requests.specs.Line.{askedLine}
 
 -- the state after a line

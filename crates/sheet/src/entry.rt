@@ -10,7 +10,7 @@ ghost use Rattle.columns.specs.Field.{inRange};
 ghost use Rattle.columns.specs.Line.{writtenOver};
 ghost use Rattle.requests.specs.Kinds.{answeredBy, numberAt, listLine, listFloats, kindAsks, Listed};
 ghost use Rattle.requests.specs.Line.{mostFields, askedLine};
-ghost use Rattle.call_lists.specs.Entry.{needFields, needOf, lineStep, bufferAfter};
+ghost use Rattle.requests.specs.ByLine.{needFields, needOf, lineStep, bufferAfter};
 ghost use Rattle.sheet.specs.Entry.{lineAnswered, lineReplied};
 ghost use Rattle.sheet.specs.Many.{replyLine};
 use columns::field::FIELD;
@@ -25,17 +25,11 @@ use requests::kinds::Kind;
 use requests::line::MOST_FIELDS;
 use requests::line::asked;
 
-// The fields of an answer.
-pub const ANSWER_FIELDS: usize = 10;
-
 // The bytes of an answer.
-pub const ANSWER: usize = FIELD * ANSWER_FIELDS;
+pub const ANSWER: usize = FIELD * Answer::FIELDS;
 
 // The bytes that the answer to a line of any kind needs at most.
 pub const MOST_NEED: usize = ANSWER;
-
-// 9: the answer buffer is too short.
-pub const SHORT_BUFFER: u32 = 9;
 
 // The state after a line, and the refusal that its answer gives.
 pub struct LineAnswered {
@@ -54,7 +48,7 @@ pub(crate) struct LineReplied {
 fn need_fields(kind: u64) -> usize
     ensures { λ r. ⌜ r ≡ needFields (inRange kind) ⌝ }
 {
-    ANSWER_FIELDS
+    Answer::FIELDS
 }
 
 // How many bytes the answer to a line needs.
@@ -181,7 +175,7 @@ pub fn answer(s: Supervisor, line: &[u8], out: &mut [u8]) -> LineAnswered
     if is_short(line, out.len()) {
         return LineAnswered {
             supervisor: s,
-            refusal: SHORT_BUFFER,
+            refusal: Answer::SHORT_BUFFER,
         };
     }
     let mut numbers = [0u32; MOST_FIELDS];

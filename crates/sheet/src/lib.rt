@@ -1,5 +1,4 @@
-// A sheet: a line and its answer, many lines however they are cut, and what holds of every list of calls.
+// A sheet: a line and its answer, and many lines however they are cut.
 pub mod entry;
 pub mod lines;
-pub mod lists;
 pub mod many;

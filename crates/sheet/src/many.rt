@@ -8,7 +8,7 @@ ghost use Rattle.falcon_core.specs.State.{unopened};
 ghost use Rattle.columns.specs.Field.{put};
 ghost use Rattle.requests.specs.Kinds.{answeredBy};
 ghost use Rattle.requests.specs.Line.{mostFields, askedLine};
-ghost use Rattle.call_lists.specs.Entry.{needOf};
+ghost use Rattle.requests.specs.ByLine.{needOf};
 ghost use Rattle.sheet.specs.Entry.{lineReplied};
 ghost use Rattle.sheet.specs.Lines.{newline, whole, lastLine, linesOf};
 ghost use Rattle.sheet.specs.Many.{replyLine, fitting, EndsFitting, replies, progressOf, answersOver};

@@ -3,8 +3,8 @@ use mathlib.Core.Path.{refl, sym, ap, _∙_}
 use lib.ListN.{length}
 use borrow.Author.Tests.{ltb-true, ltb-false}
 use Rattle.falcon_core.specs.Calls.{answerOf, refusedOf}
-use Rattle.call_lists.specs.Entry.{needOf}
-use Rattle.call_lists.proofs.Buffer.{short-step, short-buffer, full-step, full-buffer}
+use Rattle.requests.specs.ByLine.{needOf}
+use Rattle.requests.proofs.Buffer.{short-step, short-buffer, full-step, full-buffer}
 use Rattle.sheet.specs.declared.entry.LineAnswered.{LineAnswered}
 use Rattle.sheet.specs.declared.entry.LineReplied.{LineReplied}
 use Rattle.sheet.specs.Entry.{lineAnswered}

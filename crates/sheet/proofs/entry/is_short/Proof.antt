@@ -2,8 +2,8 @@ use native.Mathlib.Omega.{arith}
 use mathlib.Core.Path.{sym, ap}
 use lib.Dec.{ltb}
 use borrow.Author.Tests.{le-ltb}
-use Rattle.call_lists.specs.Entry.{needOf}
-use Rattle.call_lists.proofs.Buffer.{needs-most}
+use Rattle.requests.specs.ByLine.{needOf}
+use Rattle.requests.proofs.Buffer.{needs-most}
 use borrow.Author.Needs.{needs}
 use Rattle.sheet.proofs.entry.is_short.Statement.{statement}
 use Rattle.sheet.proofs.entry.is_short.Tie as tie

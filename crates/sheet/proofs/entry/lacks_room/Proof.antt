@@ -2,8 +2,8 @@ use native.Mathlib.Omega.{arith}
 use mathlib.Core.Path.{sym, ap}
 use lib.Dec.{leb}
 use borrow.Author.Tests.{lt-leb}
-use Rattle.call_lists.specs.Entry.{needOf}
-use Rattle.call_lists.proofs.Buffer.{needs-most}
+use Rattle.requests.specs.ByLine.{needOf}
+use Rattle.requests.proofs.Buffer.{needs-most}
 use borrow.Author.Needs.{needs}
 use Rattle.sheet.proofs.entry.lacks_room.Statement.{statement}
 use Rattle.sheet.proofs.entry.lacks_room.Tie as tie

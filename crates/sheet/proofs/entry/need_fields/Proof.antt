@@ -1,4 +1,4 @@
-use Rattle.call_lists.proofs.Buffer.{need-is}
+use Rattle.requests.proofs.Buffer.{need-is}
 use borrow.Author.Needs.{needs}
 use Rattle.sheet.proofs.entry.need_fields.Statement.{statement}
 use Rattle.sheet.proofs.entry.need_fields.Tie as tie

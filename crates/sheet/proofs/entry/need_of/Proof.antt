@@ -1,6 +1,6 @@
 use native.Mathlib.Omega.{arith}
 use Rattle.columns.specs.Field.{inRange}
-use Rattle.call_lists.proofs.Buffer.{need-most, needs-kinded}
+use Rattle.requests.proofs.Buffer.{need-most, needs-kinded}
 use borrow.Author.Needs.{needs}
 use Rattle.sheet.proofs.entry.need_of.Statement.{statement}
 use Rattle.sheet.proofs.entry.need_of.Tie as tie

@@ -4,7 +4,7 @@ use mathlib.Core.Path.{_≡_, refl, sym, ap, _∙_}
 use mathlib.Core.List.{List}
 use lib.ListN.{length}
 use borrow.Author.Tests.{leb-true, leb-false}
-use Rattle.call_lists.specs.Entry.{needOf}
+use Rattle.requests.specs.ByLine.{needOf}
 use Rattle.sheet.specs.declared.entry.LineReplied.{LineReplied}
 use Rattle.sheet.specs.Lines.{lastLine}
 use Rattle.sheet.specs.Many.{replyLine, fitting}

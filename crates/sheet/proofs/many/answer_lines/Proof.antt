@@ -4,7 +4,7 @@ use mathlib.Core.Path.{_≡_, refl, sym, ap, _∙_, subst}
 use lib.ListN.{length, take, drop}
 use Rattle.falcon_core.specs.declared.state.Supervisor.{Supervisor}
 use Rattle.requests.specs.Line.{mostFields}
-use Rattle.call_lists.specs.Entry.{needOf}
+use Rattle.requests.specs.ByLine.{needOf}
 use Rattle.sheet.specs.declared.entry.LineReplied.{LineReplied}
 use Rattle.sheet.specs.Lines.{whole, lineEnd}
 use Rattle.sheet.specs.Many.{afterLine, replyLine, EndsFitting}

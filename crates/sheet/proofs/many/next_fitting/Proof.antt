@@ -2,7 +2,7 @@ use Prim.Native.Nat.{_-_}
 use mathlib.Core.Path.{sym, _∙_}
 use lib.ListN.{take, drop}
 use borrow.Author.Tests.{leb-true, leb-false}
-use Rattle.call_lists.specs.Entry.{needOf}
+use Rattle.requests.specs.ByLine.{needOf}
 use Rattle.sheet.proofs.Replies.{ends-none, ends-full, ends-fitting}
 use borrow.Author.Needs.{needs}
 use Rattle.sheet.proofs.many.next_fitting.Statement.{statement}

@@ -9,16 +9,17 @@ use Rattle.falcon_core.specs.declared.state.Supervisor.{Supervisor}
 use Rattle.falcon_core.specs.declared.calls.Answered.{Answered}
 use Rattle.falcon_core.specs.declared.calls.Output.{Output}
 use Rattle.falcon_core.specs.declared.calls.Output.the-variants.{Nothing, Ticks}
-use Rattle.falcon_core.specs.Calls.{refusedOf, numbersOf}
+use Rattle.falcon_core.specs.Calls.{answerFields, refusedOf, numbersOf}
+use Rattle.falcon_core.specs.Refusals.{shortBuffer}
 use Rattle.columns.specs.declared.field.FieldRead.{FieldRead}
 use Rattle.columns.specs.declared.field.FieldRead.the-variants.{Number, Bad}
 use Rattle.columns.specs.Field.{fieldWidth, inRange, kindOf}
 use Rattle.columns.specs.Line.{lineOf, writtenOver}
 use Rattle.columns.proofs.Writing.{length-line}
 use Rattle.requests.specs.Kinds.{Asked, answeredBy}
 use Rattle.requests.specs.Line.{askedLine}
-use Rattle.call_lists.proofs.Answer.{numbers-count}
-use Rattle.call_lists.specs.Entry.{answerFields, answerWidth, needFields, mostNeeded, needOf, shortBuffer, askedWith, lineStep, extraOf, replyNumbers, replyOf, bufferAfter}
+use Rattle.falcon_core.proofs.Numbers.{numbers-count}
+use Rattle.requests.specs.ByLine.{answerWidth, needFields, mostNeeded, needOf, askedWith, lineStep, extraOf, replyNumbers, replyOf, bufferAfter}
 
 -- ---- what a line needs
 

@@ -8,17 +8,14 @@ use Rattle.falcon_core.specs.declared.state.Supervisor.{Supervisor}
 use Rattle.falcon_core.specs.declared.calls.Answered.{Answered}
 use Rattle.falcon_core.specs.declared.calls.Output.{Output}
 use Rattle.falcon_core.specs.declared.calls.Output.the-variants.{Nothing, Ticks}
-use Rattle.falcon_core.specs.Calls.{numbersOf}
+use Rattle.falcon_core.specs.Calls.{answerFields, numbersOf}
+use Rattle.falcon_core.specs.Refusals.{shortBuffer}
 use Rattle.columns.specs.declared.field.FieldRead.{FieldRead}
 use Rattle.columns.specs.declared.field.FieldRead.the-variants.{Number, Bad}
 use Rattle.columns.specs.Field.{fieldWidth, kindOf}
 use Rattle.columns.specs.Line.{lineOf}
 use Rattle.requests.specs.Kinds.{Asked, refuses, answeredBy}
 use Rattle.requests.specs.Line.{askedLine}
-
--- "Answer, ten fields"
-abbrev pub answerFields : ℕ
-answerFields = 10
 
 -- "110 bytes"
 abbrev pub answerWidth : ℕ
@@ -36,10 +33,6 @@ mostNeeded = answerFields
 -- the bytes that a line's answer buffer must have
 unfoldable pub needOf : List ℕ → ℕ
 needOf line = fieldWidth * needFields (kindOf line)
-
--- 9: "answer buffer under 110 bytes; nothing written"
-abbrev pub shortBuffer : ℕ
-shortBuffer = 9
 
 -- what a call by line asks, with its answer buffer: 9 comes first
 unfoldable pub askedWith : List ℕ → List ℕ → Asked

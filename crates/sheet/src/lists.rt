@@ -1,7 +1,0 @@
-// Lists of calls.
-ghost use Rattle.call_lists.specs.Demand3.{Demand3};
-
-// The two-tick, rank and fifty-tick rules hold of every list of calls.
-pub fn demand_three()
-    ensures { λ _. ⌜ Demand3 ⌝ }
-{}
