@@ -1,10 +1,11 @@
 -- A call by cases: which refusal fits, and what an accepted call gives.
-use Prim.Native.Nat.{ℕ, suc, _%_}
-use borrow.Author.Tests.{not-false}
+use Prim.Native.Nat.{ℕ, zero, suc, _%_}
+use native.Mathlib.Omega.{arith}
+use borrow.Author.Tests.{eq-eqb, ne-eqb, not-false}
 use mathlib.Core.Bool.{Bool, true, false, not}
 use mathlib.Core.List.{List}
-use mathlib.Core.Path.{_≡_, sym, _∙_}
-use lib.Dec.{eqb, eqb·suc-zero}
+use mathlib.Core.Path.{_≡_, refl, sym, ap, _∙_}
+use lib.Dec.{eqb·suc-zero}
 use lib.ListN.{length}
 use lib.Ieee.{Float}
 use Rattle.falcon_guidance.specs.declared.state.Point.{Point}
@@ -25,8 +26,8 @@ use Rattle.falcon_failsafe.specs.declared.state.Opening.{Opening}
 use Rattle.falcon_failsafe.specs.State.{openedOf}
 use Rattle.falcon_failsafe.specs.Failsafe.{reportedOf}
 use Rattle.falcon_core.specs.Calls.{Request, opens, ticks, reports, commands, plans, points, zones, miscounted, masksTooLarge, isOpening, isReport}
-use Rattle.falcon_core.specs.Refusals.{noOpening, wrongCount, outOfRange, reportDue, noReportDue, inadmissible}
-use Rattle.falcon_core.specs.Calls.{commandedBy, dueAfter, refusalOf, legsIn, startOf, startPoints, plannedOf, flightAfter, waypointsAfter, outputOf, afterOf, refusedOf, acceptedOf, stepOf}
+use Rattle.falcon_core.specs.Refusals.{wrongCount, outOfRange, inadmissible}
+use Rattle.falcon_core.specs.Calls.{commandedBy, dueAfter, shapeRefusal, sequenceRefusal, stateRefusal, refusalOf, legsIn, startOf, startPoints, plannedOf, flightAfter, waypointsAfter, outputOf, afterOf, refusedOf, acceptedOf, stepOf}
 
 -- a refusal that fits is answered and keeps the state
 pub step-refused : (s : Supervisor) (r : Request) (n : ℕ) → refusalOf s r ≡ suc n → stepOf s r ≡ refusedOf s (suc n)
@@ -40,41 +41,66 @@ step-accepted s r h = rw h
 
 -- the refusal of a request by the first test that holds
 module _ (s : Supervisor) (r : Request) where
-  pub count-refused : miscounted r ≡ true → refusedOf s wrongCount ≡ stepOf s r
-  unfolding refusalOf
+  count-refused : miscounted r ≡ true → refusedOf s wrongCount ≡ stepOf s r
+  unfolding refusalOf shapeRefusal
   count-refused w = sym (step-refused s r _ (rw w))
 
   pub masks-refused : miscounted r ≡ false → masksTooLarge r ≡ true → refusedOf s outOfRange ≡ stepOf s r
-  unfolding refusalOf
+  unfolding refusalOf shapeRefusal
   masks-refused w m = sym (step-refused s r _ (rw (w, m)))
 
-  pub unopened-refused :
-      miscounted r ≡ false → masksTooLarge r ≡ false → isOpening r ≡ false → not (s .opened) ≡ true → refusedOf s noOpening ≡ stepOf s r
-  unfolding refusalOf
-  unopened-refused w m i o = sym (step-refused s r _ (rw (w, m, i, o)))
-
-  pub due-refused :
-      miscounted r ≡ false →
-      masksTooLarge r ≡ false →
+  sequence-refused :
+      (n : ℕ) →
+      shapeRefusal r ≡ 0 →
       isOpening r ≡ false →
-      isReport r ≡ false →
-      not (s .opened) ≡ false →
-      s .«report_due» ≡ true →
-      refusedOf s reportDue ≡ stepOf s r
-  unfolding refusalOf
-  due-refused w m i p o d = sym (step-refused s r _ (rw (w, m, i, p, o, d)))
+      n ≡ sequenceRefusal (s .opened) (s .«report_due») (isReport r) →
+      (n ≡ 0 → ⊥) →
+      refusedOf s n ≡ stepOf s r
+  unfolding refusalOf stateRefusal
+  sequence-refused zero h i e q = absurd (q refl)
+  sequence-refused (suc n) h i e q = sym (step-refused s r n (rw (h, i, ← e)))
+
+-- a list is counted right
+points-shape : (l : List Float) → length l % 3 ≡ 0 → shapeRefusal (plans (points l)) ≡ 0
+unfolding shapeRefusal
+points-shape l c = rw (eq-eqb (length l % 3) 0 c)
+
+zones-shape : (l : List Float) → length l % 4 ≡ 0 → shapeRefusal (plans (zones l)) ≡ 0
+unfolding shapeRefusal
+zones-shape l c = rw (eq-eqb (length l % 4) 0 c)
 
 module _ (s : Supervisor) where
+  pub points-miscounted : (l : List Float) → (length l % 3 ≡ 0 → ⊥) → refusedOf s wrongCount ≡ stepOf s (plans (points l))
+  points-miscounted l q = count-refused s (plans (points l)) (ap not (ne-eqb (length l % 3) 0 q))
+
+  pub zones-miscounted : (l : List Float) → (length l % 4 ≡ 0 → ⊥) → refusedOf s wrongCount ≡ stepOf s (plans (zones l))
+  zones-miscounted l q = count-refused s (plans (zones l)) (ap not (ne-eqb (length l % 4) 0 q))
+
+  pub points-unsequenced :
+      (l : List Float) (n : ℕ) →
+      length l % 3 ≡ 0 →
+      n ≡ sequenceRefusal (s .opened) (s .«report_due») false →
+      (n ≡ 0 → ⊥) →
+      refusedOf s n ≡ stepOf s (plans (points l))
+  points-unsequenced l n c = sequence-refused s (plans (points l)) n (points-shape l c) refl
+
+  pub zones-unsequenced :
+      (l : List Float) (n : ℕ) →
+      length l % 4 ≡ 0 →
+      n ≡ sequenceRefusal (s .opened) (s .«report_due») false →
+      (n ≡ 0 → ⊥) →
+      refusedOf s n ≡ stepOf s (plans (zones l))
+  zones-unsequenced l n c = sequence-refused s (plans (zones l)) n (zones-shape l c) refl
+
   pub point-refused :
       (l : List Float) (ok : Bool) →
       ok ≡ allAdmissibleOf (s .flight .config) l (triedOf l) →
-      eqb (length l % 3) 0 ≡ true →
-      not (s .opened) ≡ false →
-      s .«report_due» ≡ false →
+      length l % 3 ≡ 0 →
+      sequenceRefusal (s .opened) (s .«report_due») false ≡ 0 →
       not ok ≡ true →
       refusedOf s inadmissible ≡ stepOf s (plans (points l))
-  unfolding refusalOf
-  point-refused l ok e c o d b = sym (step-refused s (plans (points l)) _ (rw (c, o, d, ← e, b)))
+  unfolding refusalOf stateRefusal
+  point-refused l ok e c q b = sym (step-refused s (plans (points l)) _ (rw (points-shape l c, q, ← e, b)))
 
   -- an accepted opening, from what its parts are
   pub opening-accepted :
@@ -83,8 +109,15 @@ module _ (s : Supervisor) where
       ps ≡ noPoints →
       masksTooLarge (opens o) ≡ false →
       acceptedOf (record { flight = f; waypoints = ps; opened = true; «report_due» = false }) Nothing ≡ stepOf s (opens o)
-  unfolding refusalOf afterOf flightAfter waypointsAfter startOf startPoints outputOf
+  unfolding refusalOf shapeRefusal stateRefusal afterOf flightAfter waypointsAfter startOf startPoints outputOf
   opening-accepted o f ps e q m = let h : refusalOf s (opens o) ≡ 0 = rw m in rw (step-accepted s (opens o) h, e, q)
+
+-- a call in sequence finds an opening, and no report due where it is none
+pub in-sequence : (opened due : Bool) → sequenceRefusal opened due false ≡ 0 → (opened ≡ true) × (due ≡ false)
+unfolding sequenceRefusal
+in-sequence true true q = absurd (omega arith)
+in-sequence true false q = (refl, refl)
+in-sequence false due q = absurd (omega arith)
 
 -- an accepted list, from what its parts are
 pub points-accepted :
@@ -92,24 +125,26 @@ pub points-accepted :
     m ≡ loadedOf l →
     ps ≡ loadedPointsOf l →
     ok ≡ allAdmissibleOf (s .flight .config) l (triedOf l) →
-    eqb (length l % 3) 0 ≡ true →
-    not (s .opened) ≡ false →
-    s .«report_due» ≡ false →
+    length l % 3 ≡ 0 →
+    sequenceRefusal (s .opened) (s .«report_due») false ≡ 0 →
     not ok ≡ false →
     acceptedOf (record { flight = withMission (s .flight) m; waypoints = ps; opened = s .opened; «report_due» = s .«report_due» }) Nothing ≡ stepOf s (plans (points l))
-unfolding refusalOf afterOf flightAfter waypointsAfter plannedOf outputOf
-points-accepted s l m ps ok em ep eo c o d b =
+unfolding refusalOf stateRefusal afterOf flightAfter waypointsAfter plannedOf outputOf
+points-accepted s l m ps ok em ep eo c q b =
     let a : allAdmissibleOf (s .flight .config) l (triedOf l) ≡ true = sym eo ∙ not-false ok b in
-    let h : refusalOf s (plans (points l)) ≡ 0 = simp (c, o, d, a) in
+    let h : refusalOf s (plans (points l)) ≡ 0 = rw (points-shape l c, q, a) in
+    let d = in-sequence (s .opened) (s .«report_due») q .1 in
     rw (step-accepted s (plans (points l)) h, em, ep, d)
 
 -- accepted zones, from what their parts are
 pub zones-accepted :
     (s : Supervisor) (l : List Float) (z : Zones) →
     z ≡ loadedZonesOf l →
-    eqb (length l % 4) 0 ≡ true →
-    not (s .opened) ≡ false →
-    s .«report_due» ≡ false →
+    length l % 4 ≡ 0 →
+    sequenceRefusal (s .opened) (s .«report_due») false ≡ 0 →
     acceptedOf (record { flight = withZones (s .flight) z; waypoints = s .waypoints; opened = s .opened; «report_due» = s .«report_due» }) Nothing ≡ stepOf s (plans (zones l))
-unfolding refusalOf afterOf flightAfter waypointsAfter plannedOf outputOf
-zones-accepted s l z ez c o d = let h : refusalOf s (plans (zones l)) ≡ 0 = simp (c, o, d) in rw (step-accepted s (plans (zones l)) h, ez, d)
+unfolding refusalOf stateRefusal afterOf flightAfter waypointsAfter plannedOf outputOf
+zones-accepted s l z ez c q =
+    let h : refusalOf s (plans (zones l)) ≡ 0 = rw (zones-shape l c, q) in
+    let d = in-sequence (s .opened) (s .«report_due») q .1 in
+    rw (step-accepted s (plans (zones l)) h, ez, d)

@@ -1,7 +1,7 @@
 -- What a refusal keeps and answers, what acceptance tells, and what every list of calls keeps.
 use Prim.Native.Nat.{ℕ, zero, suc}
 use native.Mathlib.Omega.{arith}
-use mathlib.Core.Bool.{Bool, true, false, cond, not, _&&_, _||_}
+use mathlib.Core.Bool.{Bool, true, false, cond}
 use mathlib.Core.List.{List, [], _∷_}
 use mathlib.Core.Path.{_≡_, refl, sym, ap, _∙_}
 use Rattle.relay_preflight.specs.Table.{outstandingOf}
@@ -9,7 +9,8 @@ use Rattle.relay_preflight.specs.Verdict.{firstBlockerOf}
 use Rattle.falcon_core.specs.declared.state.Supervisor.{Supervisor}
 use Rattle.falcon_core.specs.declared.calls.Output.the-variants.{Nothing}
 use Rattle.falcon_core.specs.declared.calls.Answered.{Answered}
-use Rattle.falcon_core.specs.Calls.{Request, miscounted, masksTooLarge, isOpening, isReport, pointRefused, refusalOf, afterOf, answerOf, refusedOf, acceptedOf, stepOf}
+use Rattle.falcon_core.specs.Refusals.{orElse, inadmissible}
+use Rattle.falcon_core.specs.Calls.{Request, miscounted, masksTooLarge, isOpening, isReport, pointRefused, shapeRefusal, sequenceRefusal, stateRefusal, refusalOf, afterOf, answerOf, refusedOf, acceptedOf, stepOf}
 use Rattle.falcon_core.specs.Sound.{runOf}
 use Rattle.falcon_core.proofs.Answers.{step-refused, step-accepted}
 
@@ -59,31 +60,33 @@ run-keeps P h s (r ∷ l) k = run-keeps P h (stepOf s r .supervisor) l (step-kee
 -- ---- accepted calls
 
 -- a test that does not fit
-pub unfit : (b : Bool) (n k : ℕ) → cond b (suc n) k ≡ 0 → (b ≡ false) × (k ≡ 0)
+unfit : (b : Bool) (n k : ℕ) → cond b (suc n) k ≡ 0 → (b ≡ false) × (k ≡ 0)
 unfit true n k e = absurd (omega arith)
 unfit false n k e = (refl, e)
+
+-- no refusal, and none after it
+neither : (n k : ℕ) → orElse n k ≡ 0 → (n ≡ 0) × (k ≡ 0)
+neither zero k e = (refl, e)
+neither (suc n) k e = absurd (omega arith)
 
 -- none of the table's tests fits
 pub record Passed (s : Supervisor) (r : Request) : Type 0 where
   pub counted : miscounted r ≡ false
   pub in-range : masksTooLarge r ≡ false
-  pub after-opening : (not (isOpening r) && not (s .opened)) ≡ false
-  pub none-due : (not (isReport r || isOpening r) && s .«report_due») ≡ false
-  pub due : (isReport r && not (s .«report_due»)) ≡ false
+  pub in-sequence : cond (isOpening r) 0 (sequenceRefusal (s .opened) (s .«report_due») (isReport r)) ≡ 0
   pub admissible : pointRefused s r ≡ false
 
 pub accepted-passed : (s : Supervisor) (r : Request) → refusalOf s r ≡ 0 → Passed s r
-unfolding refusalOf
+unfolding refusalOf shapeRefusal stateRefusal
 accepted-passed s r e =
-    let a = unfit (miscounted r) 3 _ e in
-    let b = unfit (masksTooLarge r) 4 _ (a .1) in
-    let c = unfit (not (isOpening r) && not (s .opened)) 0 _ (b .1) in
-    let d = unfit (not (isReport r || isOpening r) && s .«report_due») 5 _ (c .1) in
-    let f = unfit (isReport r && not (s .«report_due»)) 6 _ (d .1) in
-    let g = unfit (pointRefused s r) 7 _ (f .1) in
-    record { counted = a .0; in-range = b .0; after-opening = c .0; none-due = d .0; due = f .0; admissible = g .0 }
+    let a = neither (shapeRefusal r) (stateRefusal s r) e in
+    let b = unfit (miscounted r) 3 _ (a .0) in
+    let c = unfit (masksTooLarge r) 4 _ (b .1) in
+    let d = neither (cond (isOpening r) 0 (sequenceRefusal (s .opened) (s .«report_due») (isReport r))) (cond (pointRefused s r) inadmissible 0) (a .1) in
+    let f = unfit (pointRefused s r) 7 _ (d .1) in
+    record { counted = b .0; in-range = c .0; in-sequence = d .0; admissible = f .0 }
 
 -- "a call that no refusal fits is accepted"
 pub passed-accepted : (s : Supervisor) (r : Request) → Passed s r → refusalOf s r ≡ 0
-unfolding refusalOf
-passed-accepted s r p = rw (p .counted, p .in-range, p .after-opening, p .none-due, p .due, p .admissible)
+unfolding refusalOf shapeRefusal stateRefusal
+passed-accepted s r p = rw (p .counted, p .in-range, p .in-sequence, p .admissible)

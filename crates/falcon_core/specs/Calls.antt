@@ -96,15 +96,23 @@ pointRefused s (reports failed) = false
 pointRefused s (commands ev level low) = false
 pointRefused s (plans p) = planRefused (s .flight) p
 
+-- 4 and 5, which need no state
+unfoldable pub shapeRefusal : Request → ℕ
+shapeRefusal r = cond (miscounted r) wrongCount (cond (masksTooLarge r) outOfRange 0)
+
+-- 1, 6 and 7, of a call that is no opening: by whether there was an opening, whether a report is due, and whether the call is one
+unfoldable pub sequenceRefusal : Bool → Bool → Bool → ℕ
+sequenceRefusal opened due report =
+    cond (not opened) noOpening (cond (due && not report) reportDue (cond (report && not due) noReportDue 0))
+
+-- 1, 6, 7 and 8, which need the state: an opening is taken at any time
+unfoldable pub stateRefusal : Supervisor → Request → ℕ
+stateRefusal s r =
+    orElse (cond (isOpening r) 0 (sequenceRefusal (s .opened) (s .«report_due») (isReport r))) (cond (pointRefused s r) inadmissible 0)
+
 -- the refusal that fits, in the table's order: 4, 5, 1, 6, 7, 8; 0 where none does
 unfoldable pub refusalOf : Supervisor → Request → ℕ
-refusalOf s r =
-    cond (miscounted r) wrongCount
-    (cond (masksTooLarge r) outOfRange
-    (cond (not (isOpening r) && not (s .opened)) noOpening
-    (cond (not (isReport r || isOpening r) && s .«report_due») reportDue
-    (cond (isReport r && not (s .«report_due»)) noReportDue
-    (cond (pointRefused s r) inadmissible 0)))))
+refusalOf s r = orElse (shapeRefusal r) (stateRefusal s r)
 
 -- no check blocks arming
 abbrev pub allowedOf : TableVerdict → Bool
@@ -215,10 +223,6 @@ stepOf s r = cond (eqb (refusalOf s r) 0) (acceptedOf (afterOf s r) (outputOf (s
 
 -- ---- a tick, a report or a command: what it leaves of the flight, without the waypoints
 
--- the refusals that fit these three: 1, 6, 7
-abbrev pub flightRefusal : Bool → Bool → Request → ℕ
-flightRefusal opened due r = cond (not opened) noOpening (cond (not (isReport r) && due) reportDue (cond (isReport r && not due) noReportDue 0))
-
 unfoldable pub keptOf : FlightSupervisor → Bool → ℕ → FlightAnswered
 keptOf f due refusal = record { flight = f; «report_due» = due; answer = answerOf f refusal Nothing }
 
@@ -231,8 +235,8 @@ noLegs = record { here = origin; next = origin }
 
 unfoldable pub flightStepOf : FlightSupervisor → Bool → Bool → Legs → Request → FlightAnswered
 flightStepOf f opened due l r =
-    cond (eqb (flightRefusal opened due r) 0) (movedOf (flightAfter f l r) (reportDueAfter (outputOf f l r)) (outputOf f l r))
-    (keptOf f due (flightRefusal opened due r))
+    cond (eqb (sequenceRefusal opened due (isReport r)) 0) (movedOf (flightAfter f l r) (reportDueAfter (outputOf f l r)) (outputOf f l r))
+    (keptOf f due (sequenceRefusal opened due (isReport r)))
 
 -- the answer with the state's other parts as they were
 abbrev pub besideOf : Supervisor → FlightAnswered → Answered

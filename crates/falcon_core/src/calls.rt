@@ -1,6 +1,6 @@
 // The calls by lent values. Each takes the state and gives the state after it with its answer.
 ghost use mathlib.Core.Path.{_≡_};
-ghost use Rattle.falcon_core.specs.Calls.{opens, ticks, reports, commands, plans, points, zones, allowedOf, commandedBy, dueAfter, answerOf, refusedOf, acceptedOf};
+ghost use Rattle.falcon_core.specs.Calls.{opens, ticks, reports, commands, plans, points, zones, sequenceRefusal, allowedOf, commandedBy, dueAfter, answerOf, refusedOf, acceptedOf};
 ghost use Rattle.falcon_core.specs.Calls.{stepOf, keptOf, movedOf, noLegs, flightStepOf, flag, numbersOf};
 use crate::state::Supervisor;
 use falcon_failsafe::failsafe::reported;
@@ -201,6 +201,22 @@ fn commanded(f: FlightSupervisor, ev: Event, level: bool, throttle_low: bool) ->
     next
 }
 
+// 1, 6 and 7, of a call that is no opening: whether there was an opening, whether a report is due, whether the call is one.
+fn sequence_refusal(opened: bool, due: bool, report: bool) -> u32
+    ensures { λ r. ⌜ r ≡ sequenceRefusal opened due report ⌝ }
+{
+    if !opened {
+        return Answer::NO_OPENING;
+    }
+    if due & !report {
+        return Answer::REPORT_DUE;
+    }
+    if report & !due {
+        return Answer::NO_REPORT_DUE;
+    }
+    Answer::ACCEPTED
+}
+
 // A refusal keeps the flight, and whether a report is due.
 fn kept(f: FlightSupervisor, due: bool, refusal: u32) -> FlightAnswered
     ensures { λ r. ⌜ r ≡ keptOf f due refusal ⌝ }
@@ -234,11 +250,9 @@ pub fn flight_tick(
 ) -> FlightAnswered
     ensures { λ r. ⌜ r ≡ flightStepOf f opened due legs (ticks t) ⌝ }
 {
-    if !opened {
-        return kept(f, due, Answer::NO_OPENING);
-    }
-    if due {
-        return kept(f, due, Answer::REPORT_DUE);
+    let refusal = sequence_refusal(opened, due, false);
+    if refusal != Answer::ACCEPTED {
+        return kept(f, due, refusal);
     }
     let ticked = tick(f, legs, t);
     let flight = ticked.flight;
@@ -250,11 +264,9 @@ pub fn flight_tick(
 pub fn flight_report(f: FlightSupervisor, opened: bool, due: bool, failed: bool) -> FlightAnswered
     ensures { λ r. ⌜ r ≡ flightStepOf f opened due noLegs (reports failed) ⌝ }
 {
-    if !opened {
-        return kept(f, due, Answer::NO_OPENING);
-    }
-    if !due {
-        return kept(f, due, Answer::NO_REPORT_DUE);
+    let refusal = sequence_refusal(opened, due, true);
+    if refusal != Answer::ACCEPTED {
+        return kept(f, due, refusal);
     }
     moved(reported(f, failed), false, Output::Nothing)
 }
@@ -270,11 +282,9 @@ pub fn flight_command(
 ) -> FlightAnswered
     ensures { λ r. ⌜ r ≡ flightStepOf f opened due noLegs (commands ev level «throttle_low») ⌝ }
 {
-    if !opened {
-        return kept(f, due, Answer::NO_OPENING);
-    }
-    if due {
-        return kept(f, due, Answer::REPORT_DUE);
+    let refusal = sequence_refusal(opened, due, false);
+    if refusal != Answer::ACCEPTED {
+        return kept(f, due, refusal);
     }
     moved(
         commanded(f, ev, level, throttle_low),
@@ -373,11 +383,9 @@ impl Supervisor {
         if lent.len() % 3 != 0 {
             return refused(self, Answer::WRONG_COUNT);
         }
-        if !self.opened {
-            return refused(self, Answer::NO_OPENING);
-        }
-        if self.report_due {
-            return refused(self, Answer::REPORT_DUE);
+        let refusal = sequence_refusal(self.opened, self.report_due, false);
+        if refusal != Answer::ACCEPTED {
+            return refused(self, refusal);
         }
         let config = self.flight.config;
         if !tried_admissible(config, lent) {
@@ -401,11 +409,9 @@ impl Supervisor {
         if lent.len() % 4 != 0 {
             return refused(self, Answer::WRONG_COUNT);
         }
-        if !self.opened {
-            return refused(self, Answer::NO_OPENING);
-        }
-        if self.report_due {
-            return refused(self, Answer::REPORT_DUE);
+        let refusal = sequence_refusal(self.opened, self.report_due, false);
+        if refusal != Answer::ACCEPTED {
+            return refused(self, refusal);
         }
         let loaded = loaded_zones(lent);
         let mut flight = self.flight;

@@ -1,21 +1,18 @@
-use mathlib.Core.Path.{refl, _∙_}
+use mathlib.Core.Path.{sym, _∙_}
 use Rattle.falcon_core.specs.Calls.{reports, noLegs}
-use Rattle.falcon_core.proofs.FlightCalls.{flight-unopened, flight-undue, flight-reported}
+use Rattle.falcon_core.proofs.FlightCalls.{flight-refused, flight-reported}
 use borrow.Author.Needs.{needs}
 use Rattle.falcon_core.proofs.calls.flight_report.Statement.{statement}
 use Rattle.falcon_core.proofs.calls.flight_report.Tie as tie
+
+sequence-refusal-requires : tie.Need-sequence-refusal-requires
+sequence-refusal-requires c κs = search needs
 
 kept-requires : tie.Need-kept-requires
 kept-requires c κs = search needs
 
 returns : tie.Need-returns
-returns c = c .kept .ensures ∙ flight-unopened (c .before .before .args .f) (c .before .before .args .opened) (c .before .before .args .due) noLegs (reports (c .before .before .args .failed)) (c .before .if1 .taken)
-
-kept-requires-2 : tie.Need-kept-requires-2
-kept-requires-2 c κs = search needs
-
-returns-2 : tie.Need-returns-2
-returns-2 c = c .kept2 .ensures ∙ flight-undue (c .before .before .before .args .f) (c .before .before .before .args .opened) (c .before .before .before .args .due) noLegs (c .before .before .before .args .failed) (c .before .before .if1 .left) (c .before .if2 .taken)
+returns c = c .kept .ensures ∙ flight-refused (c .before .before .before .args .f) (c .before .before .before .args .opened) (c .before .before .before .args .due) noLegs (reports (c .before .before .before .args .failed)) _ (c .before .before .sequence-refusal .ensures) (c .before .if1 .taken)
 
 reported-requires : tie.Need-reported-requires
 reported-requires c κs = search needs
@@ -23,17 +20,16 @@ reported-requires c κs = search needs
 moved-requires : tie.Need-moved-requires
 moved-requires c κs = search needs
 
-returns-3 : tie.Need-returns-3
-returns-3 c = c .moved .ensures ∙ flight-reported (c .before .before .before .before .args .f) (c .before .before .before .before .args .opened) (c .before .before .before .before .args .due) noLegs (c .before .before .before .before .args .failed) _ (c .before .reported .ensures) (c .before .before .before .if1 .left) (c .before .before .if2 .left)
+returns-2 : tie.Need-returns-2
+returns-2 c = c .moved .ensures ∙ flight-reported (c .before .before .before .before .args .f) (c .before .before .before .before .args .opened) (c .before .before .before .before .args .due) noLegs (c .before .before .before .before .args .failed) _ (c .before .reported .ensures) (sym (c .before .before .before .sequence-refusal .ensures) ∙ c .before .before .if1 .left)
 
 pub flight-report-spec : {M : Type 1} → statement M
 flight-report-spec =
     tie.close
     (tie.spec
+    sequence-refusal-requires
     kept-requires
     returns
-    kept-requires-2
-    returns-2
     reported-requires
     moved-requires
-    returns-3)
+    returns-2)
