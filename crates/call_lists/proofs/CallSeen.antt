@@ -9,16 +9,13 @@ use Rattle.falcon_core.specs.declared.calls.Answered.{Answered}
 use Rattle.falcon_core.specs.Calls.{Request, refusalOf, legsIn, afterOf, outputOf, answerOf, refusedOf, acceptedOf, stepOf}
 use Rattle.falcon_core.proofs.Answers.{step-refused, step-accepted}
 use Rattle.requests.specs.Kinds.{Asked, refuses, asks, answeredBy}
-use Rattle.call_lists.specs.Lists.{Call, askedOf, callStep, accepted, requested, taken}
+use Rattle.requests.specs.ByLine.{askedWith, lineStep}
+use Rattle.call_lists.specs.Lists.{Call, byValues, byLine, callStep, accepted, requested, acceptedRequest}
 
--- the answer to a call, and what it took
+-- the answer to a call, and what it accepted
 pub data Seen (s : Supervisor) : Answered → Option Request → Type 0 where
   refused : (n : ℕ) → Seen s (refusedOf s n) none
-  took : (r : Request) → refusalOf s r ≡ 0 → Seen s (acceptedOf (afterOf s r) (outputOf (s .flight) (legsIn s) r)) (some r)
-
--- the same of what is asked
-takenBy : Answered → Asked → Option Request
-takenBy a k = cond (accepted a) (requested k) none
+  accepts : (r : Request) → refusalOf s r ≡ 0 → Seen s (acceptedOf (afterOf s r) (outputOf (s .flight) (legsIn s) r)) (some r)
 
 refused-takes : (s : Supervisor) (n : ℕ) (b : Bool) → cond {A = Option Request} b none none ≡ none
 refused-takes s n true = refl
@@ -26,13 +23,14 @@ refused-takes s n false = refl
 
 seen-by : (s : Supervisor) (r : Request) (n : ℕ) → refusalOf s r ≡ n → Seen s (stepOf s r) (cond (accepted (stepOf s r)) (some r) none)
 unfolding refusedOf acceptedOf answerOf
-seen-by s r zero e = rw (step-accepted s r e) (took r e)
+seen-by s r zero e = rw (step-accepted s r e) (accepts r e)
 seen-by s r (suc n) e = rw (step-refused s r n e, eqb·suc-zero n) (refused (suc n))
 
 seen-asked : (s : Supervisor) (k : Asked) → Seen s (answeredBy s k) (cond (accepted (answeredBy s k)) (requested k) none)
 seen-asked s (refuses n) = rw (refused-takes s n (accepted (refusedOf s n))) (refused n)
 seen-asked s (asks r) = seen-by s r (refusalOf s r) refl
 
-pub seen : (s : Supervisor) (c : Call) → Seen s (callStep s c) (taken s c)
-unfolding callStep taken
-seen s c = seen-asked s (askedOf c)
+pub seen : (s : Supervisor) (c : Call) → Seen s (callStep s c) (acceptedRequest s c)
+unfolding callStep acceptedRequest lineStep
+seen s (byValues r) = seen-asked s (asks r)
+seen s (byLine line out) = seen-asked s (askedWith line out)

@@ -7,7 +7,7 @@ use mathlib.Core.List.{List, [], _∷_}
 use mathlib.Core.Logic.{_⊎_, inl, inr, ⊎-elim, _↔_, _≢_}
 use mathlib.Core.Option.{Option, none, some}
 use mathlib.Core.Path.{_≡_, refl, sym, _∙_, subst}
-use lib.Dec.{T, leb, leb→le, le→leb}
+use lib.Dec.{T, leb, leb→le}
 use lib.Ieee.Fits.{and-l, and-r}
 use Rattle.relay_fsm.specs.declared.Mode.{Mode}
 use Rattle.relay_fsm.specs.declared.Mode.the-variants.{Disarmed, Terminated}
@@ -20,7 +20,7 @@ use Rattle.falcon_guidance.specs.declared.state.Tick.{Tick}
 use Rattle.falcon_core.specs.declared.state.Supervisor.{Supervisor}
 use Rattle.falcon_core.specs.declared.calls.Answered.{Answered}
 use Rattle.falcon_failsafe.specs.Failsafe.{tiltedOf, runawayEnough}
-use Rattle.falcon_flight.specs.Milestone.{nearGroundOf}
+use Rattle.falcon_flight.specs.Milestone.{heightOf, nearGroundOf}
 use Rattle.falcon_flight.specs.Tick.{tickOf}
 use Rattle.falcon_core.specs.Land.{landedOf, throughLandOf}
 use Rattle.falcon_core.specs.Calls.{Request, opens, ticks, reports, commands, plans, legsIn, flightAfter, afterOf, outputOf}
@@ -28,16 +28,16 @@ use Rattle.falcon_core.proofs.Parts.{planned-mode}
 use Rattle.falcon_core.proofs.Rank.{tick-rank, report-rank}
 use Rattle.falcon_core.proofs.Phase.{phaseOf, airborne-phase, tick-phase, report-keeps-phase}
 use Rattle.falcon_core.proofs.Runaway.{tick-ends}
-use Rattle.call_lists.specs.Lists.{Call, Began, Place, taken, nextMode, ticked, nextBattery, nextBegan, nextCarried, nextPlace, placeFrom, placeAt, start, latchOf, calm, calmFrom, tickCount, ticksFrom}
+use Rattle.call_lists.specs.Lists.{Call, Began, Place, acceptedRequest, nextMode, ticked, nextBattery, nextBegan, placeAfter, nextPlace, placeFrom, placeAt, start, latchOf, calm, calmFrom, tickCount, ticksFrom}
 use Rattle.call_lists.specs.Demand3.{landingTicks, tumblingTicks, underGround, tumbling, tumblingFor, TwoTicks, RankKept, FiftyTicks, Demand3}
-use Rattle.call_lists.proofs.CallSeen.{Seen, refused, took, seen}
-use Rattle.call_lists.proofs.PlaceHolds.{run, Inv, Holding, refused-mode, accepted-mode, one-more, run-now, enough-is, tick-terminates, no-air, next-holding, place-holding, start-holding}
+use Rattle.call_lists.proofs.CallSeen.{Seen, refused, accepts, seen}
+use Rattle.call_lists.proofs.PlaceHolds.{run, Holding, refused-mode, accepted-mode, ticked-flight, began-now, air, one-more, run-now, enough-is, tick-terminates, no-air, next-holding, place-holding, start-holding}
 
 -- ---- the rank rule
 
 -- height under 0.15 m, as the tick tests it
 ground-is : (t : Tick) → nearGroundOf t ≡ underGround t
-unfolding nearGroundOf underGround
+unfolding nearGroundOf heightOf underGround
 ground-is t = refl
 
 -- a tick with height under 0.15 m that goes to Disarmed through Land
@@ -48,19 +48,19 @@ record Touched (s : Supervisor) (n : Mode) (k : Option Request) : Type 0 where
   disarmed : n ≡ Disarmed
   through-land : T (throughLandOf (s .flight) (legsIn s) tick)
 
-rank-took :
+rank-accepted :
     (s : Supervisor) (r : Request)
     → T (calm (some r))
     → (rankOf (s .flight .fsm .mode) ≤ rankOf (afterOf s r .flight .fsm .mode)) ⊎ Touched s (afterOf s r .flight .fsm .mode) (some r)
 unfolding afterOf flightAfter
-rank-took s (opens o) h = absurd h
-rank-took s (ticks t) h =
+rank-accepted s (opens o) h = absurd h
+rank-accepted s (ticks t) h =
     ⊎-elim inl
     (λ u. inr (record { tick = t; is-tick = refl; low = subst T (ground-is t) (u .0); disarmed = u .1; through-land = u .2 }))
     (tick-rank (s .flight) (legsIn s) t)
-rank-took s (reports failed) h = inl (report-rank (s .flight) failed)
-rank-took s (commands ev level low) h = absurd h
-rank-took s (plans p) h = inl (rw (planned-mode (s .flight) p) (le-refl (rankOf (s .flight .fsm .mode))))
+rank-accepted s (reports failed) h = inl (report-rank (s .flight) failed)
+rank-accepted s (commands ev level low) h = absurd h
+rank-accepted s (plans p) h = inl (rw (planned-mode (s .flight) p) (le-refl (rankOf (s .flight .fsm .mode))))
 
 rank-seen :
     (s : Supervisor) (m : Mode) (a : Answered) (k : Option Request)
@@ -69,10 +69,10 @@ rank-seen :
     → T (calm k)
     → (rankOf m ≤ rankOf (nextMode m a)) ⊎ Touched s (nextMode m a) k
 rank-seen s m _ _ (refused n) e h = inl (rw (refused-mode s m n e) (le-refl (rankOf m)))
-rank-seen s m _ _ (took r q) e h = rw (accepted-mode (afterOf s r) m (outputOf (s .flight) (legsIn s) r), e) (rank-took s r h)
+rank-seen s m _ _ (accepts r q) e h = rw (accepted-mode (afterOf s r) m (outputOf (s .flight) (legsIn s) r), e) (rank-accepted s r h)
 
 pub rank-rule : (p : Place) (c : Call) → Holding p → RankKept p c
-unfolding nextPlace
+unfolding nextPlace placeAfter
 rank-rule p c i h =
     ⊎-elim inl
     (λ u. inr (record { tick = u .tick; is-tick = u .is-tick; low = u .low; disarmed = u .disarmed; through-land = u .through-land }))
@@ -89,17 +89,17 @@ run-step true y n r f h = let k = f h in omega (arith, k)
 run-step false y n r f h = absurd h
 
 -- so many ticks in a row began airborne and tilted
-run→tumbling : (j n : ℕ) (l : List Began) → n ≤ run j l → T (tumblingFor j n l)
+run→tumbling : (n : ℕ) (l : List Began) → n ≤ run l → T (tumblingFor n l)
 unfolding run tumblingFor
-run→tumbling j zero l h = tt
-run→tumbling j (suc n) [] h = le→leb (suc n) j h
-run→tumbling j (suc n) (b ∷ l) h = tumbling-step (tumbling b) (tumblingFor j n l) n (run j l) (λ k. run→tumbling j n l k) h
+run→tumbling zero l h = tt
+run→tumbling (suc n) [] h = absurd (omega arith)
+run→tumbling (suc n) (b ∷ l) h = tumbling-step (tumbling b) (tumblingFor n l) n (run l) (λ k. run→tumbling n l k) h
 
-tumbling→run : (j n : ℕ) (l : List Began) → T (tumblingFor j n l) → n ≤ run j l
+tumbling→run : (n : ℕ) (l : List Began) → T (tumblingFor n l) → n ≤ run l
 unfolding run tumblingFor
-tumbling→run j zero l h = omega arith
-tumbling→run j (suc n) [] h = leb→le (suc n) j h
-tumbling→run j (suc n) (b ∷ l) h = run-step (tumbling b) (tumblingFor j n l) n (run j l) (λ k. tumbling→run j n l k) h
+tumbling→run zero l h = omega arith
+tumbling→run (suc n) [] h = absurd h
+tumbling→run (suc n) (b ∷ l) h = run-step (tumbling b) (tumblingFor n l) n (run l) (λ k. tumbling→run n l k) h
 
 or-false : (a b : Bool) → a ≡ false → (a || b) ≡ b
 or-false a b e = rw e
@@ -111,56 +111,59 @@ not-mode m h = go (isMode m Terminated) refl
     go true e = absurd (h (isMode→eq m Terminated (subst T (sym e) tt)))
     go false e = e
 
-module _ (s : Supervisor) (m : Mode) (b : Option Battery) (l : List Began) (j : ℕ) (t : Tick) (i : Inv s m b l j) where
+module _ (p : Place) (t : Tick) (i : Holding p) where
   abbrev now : Began
-  now = record { mode = m; tick = t }
+  now = began-now p t i
 
-  abbrev air : Bool
-  air = isAirborneOf (s .flight .fsm .mode) && tiltedOf t
+  abbrev in-air : Bool
+  in-air = air p t i
+
+  abbrev enough : Bool
+  enough = leb tumblingTicks (suc (run (p .began)))
 
   -- a tick that enters Terminated
-  enters : (m ≡ Terminated → ⊥) → tickOf (s .flight) (legsIn s) t .flight .fsm .mode ≡ Terminated → T (air && runawayEnough (suc (run j l)))
+  enters : (p .mode ≡ Terminated → ⊥) → ticked-flight p t i .fsm .mode ≡ Terminated → T (in-air && runawayEnough (suc (run (p .began))))
   enters h e =
-      let f : isMode (s .flight .fsm .mode) Terminated ≡ false = not-mode (s .flight .fsm .mode) (λ q. h (i .mode-is ∙ q)) in
-      let a : Mode = tickOf (s .flight) (legsIn s) t .flight .fsm .mode in
-      let q = tick-ends (s .flight) (legsIn s) t ∙ or-false (isMode (s .flight .fsm .mode) Terminated) _ f in
-      rw (one-more s m b l j t i) at (subst T q (eq→isMode a Terminated e))
+      let f : isMode (p .supervisor .flight .fsm .mode) Terminated ≡ false = not-mode (p .supervisor .flight .fsm .mode) (λ q. h (i .mode-is ∙ q)) in
+      let a : Mode = ticked-flight p t i .fsm .mode in
+      let q = tick-ends (p .supervisor .flight) (legsIn (p .supervisor)) t ∙ or-false (isMode (p .supervisor .flight .fsm .mode) Terminated) _ f in
+      rw (one-more p t i) at (subst T q (eq→isMode a Terminated e))
 
-  forward : (m ≡ Terminated → ⊥) → tickOf (s .flight) (legsIn s) t .flight .fsm .mode ≡ Terminated → T (tumblingFor j tumblingTicks (now ∷ l))
+  forward : (p .mode ≡ Terminated → ⊥) → ticked-flight p t i .fsm .mode ≡ Terminated → T (tumblingFor tumblingTicks (now ∷ p .began))
   forward h e =
-      let u : T (air && leb tumblingTicks (suc (run j l))) = rw (enough-is (suc (run j l))) at (enters h e) in
-      let a : air ≡ true = is-true air (and-l air (leb tumblingTicks (suc (run j l))) u) in
-      let k = leb→le tumblingTicks (suc (run j l)) (and-r air (leb tumblingTicks (suc (run j l))) u) in
-      let r : run j (now ∷ l) ≡ suc (run j l) = run-now s m b l j t i ∙ rw a in
-      run→tumbling j tumblingTicks (now ∷ l) (omega (arith, r, k))
+      let u : T (in-air && enough) = rw (enough-is (suc (run (p .began)))) at (enters h e) in
+      let a : in-air ≡ true = is-true in-air (and-l in-air enough u) in
+      let k = leb→le tumblingTicks (suc (run (p .began))) (and-r in-air enough u) in
+      let r : run (now ∷ p .began) ≡ suc (run (p .began)) = run-now p t i ∙ rw a in
+      run→tumbling tumblingTicks (now ∷ p .began) (omega (arith, r, k))
 
-  back : T (tumblingFor j tumblingTicks (now ∷ l)) → (m ≡ Terminated → ⊥) × (tickOf (s .flight) (legsIn s) t .flight .fsm .mode ≡ Terminated)
-  back h = go air refl
+  back : T (tumblingFor tumblingTicks (now ∷ p .began)) → (p .mode ≡ Terminated → ⊥) × (ticked-flight p t i .fsm .mode ≡ Terminated)
+  back h = go in-air refl
     where
-      k : tumblingTicks ≤ run j (now ∷ l)
-      k = tumbling→run j tumblingTicks (now ∷ l) h
+      k : tumblingTicks ≤ run (now ∷ p .began)
+      k = tumbling→run tumblingTicks (now ∷ p .began) h
 
-      go : (x : Bool) → air ≡ x → (m ≡ Terminated → ⊥) × (tickOf (s .flight) (legsIn s) t .flight .fsm .mode ≡ Terminated)
+      go : (x : Bool) → in-air ≡ x → (p .mode ≡ Terminated → ⊥) × (ticked-flight p t i .fsm .mode ≡ Terminated)
       go true e =
-          let r : run j (now ∷ l) ≡ suc (run j l) = run-now s m b l j t i ∙ rw e in
-          ((λ q. no-air (s .flight .fsm .mode) (tiltedOf t) (sym (i .mode-is) ∙ q) e), tick-terminates s m b l j t i e (omega (arith, r, k)))
-      go false e = let r : run j (now ∷ l) ≡ 0 = run-now s m b l j t i ∙ rw e in absurd (omega (arith, r, k))
+          let r : run (now ∷ p .began) ≡ suc (run (p .began)) = run-now p t i ∙ rw e in
+          ((λ q. no-air (p .supervisor .flight .fsm .mode) (tiltedOf t) (sym (i .mode-is) ∙ q) e), tick-terminates p t i e (omega (arith, r, k)))
+      go false e = let r : run (now ∷ p .began) ≡ 0 = run-now p t i ∙ rw e in absurd (omega (arith, r, k))
 
 fifty-seen :
-    (s : Supervisor) (m : Mode) (b : Option Battery) (l : List Began) (j : ℕ) (a : Answered) (k : Option Request) (t : Tick)
-    → Seen s a k
-    → Inv s m b l j
+    (p : Place) (a : Answered) (k : Option Request) (t : Tick)
+    → Seen (p .supervisor) a k
+    → Holding p
     → k ≡ some (ticks t)
-    → ((m ≢ Terminated) × (nextMode m a ≡ Terminated)) ↔ T (tumblingFor (nextCarried j k) tumblingTicks (nextBegan m l k))
+    → ((p .mode ≢ Terminated) × (nextMode (p .mode) a ≡ Terminated)) ↔ T (tumblingFor tumblingTicks (nextBegan (p .mode) (p .began) k))
 unfolding afterOf flightAfter
-fifty-seen s m b l j _ _ t (refused n) i e = absurd (let z : _≡_ {A = ℕ} 0 1 = cc in omega arith)
-fifty-seen s m b l j _ _ t (took r q) i e =
+fifty-seen p _ _ t (refused n) i e = absurd (let z : _≡_ {A = ℕ} 0 1 = cc in omega arith)
+fifty-seen p _ _ t (accepts r q) i e =
     let x : r ≡ ticks t = cc in
-    rw (accepted-mode (afterOf s r) m (outputOf (s .flight) (legsIn s) r), x) ((λ u. forward s m b l j t i (u .0) (u .1)), back s m b l j t i)
+    rw (accepted-mode (afterOf (p .supervisor) r) (p .mode) (outputOf (p .supervisor .flight) (legsIn (p .supervisor)) r), x) ((λ u. forward p t i (u .0) (u .1)), back p t i)
 
 pub fifty-rule : (p : Place) (c : Call) → Holding p → FiftyTicks p c
-unfolding nextPlace
-fifty-rule p c i t e = fifty-seen (p .supervisor) (p .mode) (p .battery) (p .began) (p .carried) _ _ t (seen (p .supervisor) c) i e
+unfolding nextPlace placeAfter
+fifty-rule p c i t e = fifty-seen p _ _ t (seen (p .supervisor) c) i e
 
 -- ---- the two-tick rule
 
@@ -188,50 +191,52 @@ record On (k : ℕ) (m : Mode) (b : Option Battery) : Type 0 where
 one-add : (k : ℕ) → suc k ≡ 1 + k
 one-add k = omega arith
 
-on-took :
-    (s : Supervisor) (m : Mode) (b : Option Battery) (l : List Began) (j : ℕ) (k : ℕ) (r : Request)
-    → Inv s m b l j
+on-accepted :
+    (p : Place) (k : ℕ) (r : Request)
+    → Holding p
     → T (calm (some r))
-    → T (phaseOf k (s .flight .fsm .mode))
-    → T (latchOf b)
-    → On (tickCount (some r) + k) (afterOf s r .flight .fsm .mode) (nextBattery b (some r))
+    → T (phaseOf k (p .supervisor .flight .fsm .mode))
+    → T (latchOf (p .battery))
+    → On (tickCount (some r) + k) (afterOf (p .supervisor) r .flight .fsm .mode) (nextBattery (p .battery) (some r))
 unfolding afterOf flightAfter
-on-took s m b l j k (opens o) i h p q = absurd h
-on-took s m b l j k (ticks t) i h p q =
+on-accepted p k (opens o) i h f q = absurd h
+on-accepted p k (ticks t) i h f q =
+    let s = p .supervisor in
     record {
       phase =
-          subst (λ (n : ℕ). T (phaseOf n (tickOf (s .flight) (legsIn s) t .flight .fsm .mode))) (one-add k)
+          subst (λ (n : ℕ). T (phaseOf n (ticked-flight p t i .fsm .mode))) (one-add k)
           (tick-phase k (s .flight) (legsIn s) t
           (critical-shown (s .flight .battery) (t .dt) (t .reading) (i .shown-is)
-          ∙ critical-stays (s .flight .battery) (t .dt) (t .reading) (latch-set s b (i .battery-is) q))
-          p);
-      latch = latch-ticked b t q;
+          ∙ critical-stays (s .flight .battery) (t .dt) (t .reading) (latch-set s (p .battery) (i .battery-is) q))
+          f);
+      latch = latch-ticked (p .battery) t q;
     }
-on-took s m b l j k (reports failed) i h p q = record { phase = rw (zero-add k) (report-keeps-phase k (s .flight) failed p); latch = q }
-on-took s m b l j k (commands ev level low) i h p q = absurd h
-on-took s m b l j k (plans x) i h p q = record { phase = rw (zero-add k, planned-mode (s .flight) x) p; latch = q }
+on-accepted p k (reports failed) i h f q = record { phase = rw (zero-add k) (report-keeps-phase k (p .supervisor .flight) failed f); latch = q }
+on-accepted p k (commands ev level low) i h f q = absurd h
+on-accepted p k (plans x) i h f q = record { phase = rw (zero-add k, planned-mode (p .supervisor .flight) x) f; latch = q }
 
 on-seen :
-    (s : Supervisor) (m : Mode) (b : Option Battery) (l : List Began) (j : ℕ) (k : ℕ) (a : Answered) (r : Option Request)
-    → Seen s a r
-    → Inv s m b l j
+    (p : Place) (k : ℕ) (a : Answered) (r : Option Request)
+    → Seen (p .supervisor) a r
+    → Holding p
     → T (calm r)
-    → T (phaseOf k m)
-    → T (latchOf b)
-    → On (tickCount r + k) (nextMode m a) (nextBattery b r)
-on-seen s m b l j k _ _ (refused n) i h p q = record { phase = rw (zero-add k, refused-mode s m n (i .mode-is)) p; latch = q }
-on-seen s m b l j k _ _ (took r e) i h p q =
-    rw (accepted-mode (afterOf s r) m (outputOf (s .flight) (legsIn s) r)) (on-took s m b l j k r i h (subst (λ (x : Mode). T (phaseOf k x)) (i .mode-is) p) q)
+    → T (phaseOf k (p .mode))
+    → T (latchOf (p .battery))
+    → On (tickCount r + k) (nextMode (p .mode) a) (nextBattery (p .battery) r)
+on-seen p k _ _ (refused n) i h f q = record { phase = rw (zero-add k, refused-mode (p .supervisor) (p .mode) n (i .mode-is)) f; latch = q }
+on-seen p k _ _ (accepts r e) i h f q =
+    rw (accepted-mode (afterOf (p .supervisor) r) (p .mode) (outputOf (p .supervisor .flight) (legsIn (p .supervisor)) r))
+    (on-accepted p k r i h (subst (λ (x : Mode). T (phaseOf k x)) (i .mode-is) f) q)
 
 on-call :
     (p : Place) (c : Call) (k : ℕ)
     → Holding p
-    → T (calm (taken (p .supervisor) c))
+    → T (calm (acceptedRequest (p .supervisor) c))
     → T (phaseOf k (p .mode))
     → T (latchOf (p .battery))
-    → On (tickCount (taken (p .supervisor) c) + k) (nextPlace p c .mode) (nextPlace p c .battery)
-unfolding nextPlace
-on-call p c k i h f q = on-seen (p .supervisor) (p .mode) (p .battery) (p .began) (p .carried) k _ _ (seen (p .supervisor) c) i h f q
+    → On (tickCount (acceptedRequest (p .supervisor) c) + k) (nextPlace p c .mode) (nextPlace p c .battery)
+unfolding nextPlace placeAfter
+on-call p c k i h f q = on-seen p k _ _ (seen (p .supervisor) c) i h f q
 
 swap : (a b c : ℕ) → a + (b + c) ≡ b + a + c
 swap a b c = omega arith
@@ -246,7 +251,7 @@ calm-run :
 unfolding placeFrom calmFrom ticksFrom
 calm-run p [] k i h q c = rw (zero-add k) h
 calm-run p (x ∷ l) k i h q c =
-    let r = taken (p .supervisor) x in
+    let r = acceptedRequest (p .supervisor) x in
     let o = on-call p x k i (and-l (calm r) (calmFrom (nextPlace p x) l) c) h q in
     subst (λ (n : ℕ). T (phaseOf n (placeFrom (nextPlace p x) l .mode))) (swap (ticksFrom (nextPlace p x) l) (tickCount r) k)
     (calm-run (nextPlace p x) l (tickCount r + k) (next-holding p x i) (o .phase) (o .latch) (and-r (calm r) (calmFrom (nextPlace p x) l) c))

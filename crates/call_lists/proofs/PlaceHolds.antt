@@ -21,6 +21,7 @@ use Rattle.relay_batt.specs.Battery.{updateOf}
 use Rattle.relay_batt.specs.Battery.{openedOf as openedBatteryOf}
 use Rattle.relay_batt.specs.Config.{forOpeningVoltsOf}
 use Rattle.relay_batt.proofs.Stays.{critical-shown, opened-state, opened-flags, none-flags}
+use Rattle.falcon_guidance.specs.declared.state.Config.{Config}
 use Rattle.falcon_guidance.specs.declared.state.Tick.{Tick}
 use Rattle.falcon_failsafe.specs.declared.state.Counts.{Counts}
 use Rattle.falcon_core.specs.declared.state.Supervisor.{Supervisor}
@@ -33,27 +34,27 @@ use Rattle.falcon_core.specs.State.{unopened}
 use Rattle.falcon_failsafe.specs.Failsafe.{tiltedOf, runawayEnough, reportedOf}
 use Rattle.falcon_flight.specs.Tick.{tickOf}
 use Rattle.falcon_core.specs.Calls.{Request, opens, ticks, reports, commands, plans, dueAfter, refusalOf, legsIn, flightAfter, waypointsAfter, afterOf, outputOf, answerOf, refusedOf, acceptedOf}
-use Rattle.falcon_core.proofs.Parts.{planned-mode, planned-battery, planned-counts}
-use Rattle.falcon_core.specs.Sound.{SoundTilt}
-use Rattle.falcon_core.proofs.Invariant.{start-sound}
+use Rattle.falcon_core.proofs.Parts.{planned-mode, planned-battery, planned-counts, after-config}
+use Rattle.falcon_core.proofs.Invariant.{start-sound, start-untilted}
 use Rattle.falcon_core.proofs.Stages.{tick-battery, report-battery, report-counts, command-battery, command-counts}
 use Rattle.falcon_core.proofs.Runaway.{tick-count, tick-ends, report-ends, command-terminated}
-use Rattle.call_lists.specs.Lists.{Call, Began, Place, nextMode, ticked, nextBattery, nextBegan, nextCarried, nextPlace, placeFrom, start}
+use Rattle.call_lists.specs.Lists.{Call, Began, Place, nextMode, ticked, placeAfter, nextPlace, placeFrom, start}
 use Rattle.call_lists.specs.Demand3.{tumblingTicks, tumbling}
-use Rattle.call_lists.proofs.CallSeen.{Seen, refused, took, seen}
+use Rattle.call_lists.proofs.CallSeen.{Seen, refused, accepts, seen}
 
 -- how many of the latest ticks in a row began airborne and tilted
-unfoldable pub run : ℕ → List Began → ℕ
-run carried [] = carried
-run carried (b ∷ l) = cond (tumbling b) (suc (run carried l)) 0
+unfoldable pub run : List Began → ℕ
+run [] = 0
+run (b ∷ l) = cond (tumbling b) (suc (run l)) 0
 
--- at a place with state s, mode m, battery b and ticks l
-pub record Inv (s : Supervisor) (m : Mode) (b : Option Battery) (l : List Began) (j : ℕ) : Type 0 where
-  pub mode-is : m ≡ s .flight .fsm .mode
-  pub battery-is : b ≡ cond (s .opened) (some (s .flight .battery)) none
-  pub shown-is : s .flight .battery .state .critical ≡ s .flight .battery .est .critical .latched
-  pub count-is : s .flight .counts .«runaway_count» ≡ run j l
-  pub capped : (run j l + 1 ≤ tumblingTicks) ⊎ ((run j l ≡ tumblingTicks) × (s .flight .fsm .mode ≡ Terminated))
+-- what holds at a place
+pub record Holding (p : Place) : Type 0 where
+  pub mode-is : p .mode ≡ p .supervisor .flight .fsm .mode
+  pub config-is : p .config ≡ cond (p .supervisor .opened) (some (p .supervisor .flight .config)) none
+  pub battery-is : p .battery ≡ cond (p .supervisor .opened) (some (p .supervisor .flight .battery)) none
+  pub shown-is : p .supervisor .flight .battery .state .critical ≡ p .supervisor .flight .battery .est .critical .latched
+  pub count-is : p .supervisor .flight .counts .«runaway_count» ≡ run (p .began)
+  pub capped : (run (p .began) + 1 ≤ tumblingTicks) ⊎ ((run (p .began) ≡ tumblingTicks) × (p .supervisor .flight .fsm .mode ≡ Terminated))
 
 -- ---- a refused call
 
@@ -62,12 +63,17 @@ unfolding refusedOf answerOf
 refused-mode s m zero e = sym e
 refused-mode s m (suc n) e = rw (eqb·suc-zero n)
 
-refused-state : (s : Supervisor) (n : ℕ) → refusedOf s n .supervisor ≡ s
-unfolding refusedOf
-refused-state s n = refl
-
-after-refused : (s : Supervisor) (m : Mode) (b : Option Battery) (l : List Began) (j : ℕ) (n : ℕ) → Inv s m b l j → Inv (refusedOf s n .supervisor) (nextMode m (refusedOf s n)) b l j
-after-refused s m b l j n i = rw (refused-state s n, refused-mode s m n (i .mode-is)) i
+after-refused : (p : Place) (n : ℕ) → Holding p → Holding (placeAfter p (refusedOf (p .supervisor) n) none)
+unfolding placeAfter refusedOf
+after-refused p n i =
+    record {
+      mode-is = refused-mode (p .supervisor) (p .mode) n (i .mode-is) ∙ i .mode-is;
+      config-is = i .config-is;
+      battery-is = i .battery-is;
+      shown-is = i .shown-is;
+      count-is = i .count-is;
+      capped = i .capped;
+    }
 
 -- ---- an accepted call: the flight after it, and what it leaves as it is
 
@@ -76,25 +82,23 @@ pub accepted-mode : (s : Supervisor) (m : Mode) (out : Output) → nextMode m (a
 unfolding acceptedOf answerOf
 accepted-mode s m out = refl
 
-accepted-state : (s : Supervisor) (out : Output) → acceptedOf s out .supervisor ≡ s
-unfolding acceptedOf
-accepted-state s out = refl
-
--- a call that keeps the battery, the counts and a Terminated mode
+-- a call that keeps the configuration, the battery, the counts and a Terminated mode
 kept :
-    (s t : Supervisor) (m : Mode) (b : Option Battery) (l : List Began) (j : ℕ)
-    → Inv s m b l j
-    → t .opened ≡ s .opened
-    → t .flight .battery ≡ s .flight .battery
-    → t .flight .counts .«runaway_count» ≡ s .flight .counts .«runaway_count»
-    → (s .flight .fsm .mode ≡ Terminated → t .flight .fsm .mode ≡ Terminated)
-    → Inv t (t .flight .fsm .mode) b l j
-kept s t m b l j i o e c k =
+    (p : Place) (s : Supervisor)
+    → Holding p
+    → s .opened ≡ p .supervisor .opened
+    → s .flight .config ≡ p .supervisor .flight .config
+    → s .flight .battery ≡ p .supervisor .flight .battery
+    → s .flight .counts ≡ p .supervisor .flight .counts
+    → (p .supervisor .flight .fsm .mode ≡ Terminated → s .flight .fsm .mode ≡ Terminated)
+    → Holding (record { supervisor = s; mode = s .flight .fsm .mode; config = p .config; battery = p .battery; began = p .began })
+kept p s i o g e c k =
     record {
       mode-is = refl;
+      config-is = rw (o, g) (i .config-is);
       battery-is = rw (o, e) (i .battery-is);
       shown-is = rw e (i .shown-is);
-      count-is = c ∙ i .count-is;
+      count-is = ap (λ (n : Counts). n .«runaway_count») c ∙ i .count-is;
       capped = ⊎-elim inl (λ u. inr (u .0, k (u .1))) (i .capped);
     }
 
@@ -122,119 +126,113 @@ pub enough-is : (n : ℕ) → runawayEnough n ≡ leb tumblingTicks n
 unfolding runawayEnough
 enough-is n = refl
 
-module _ (s : Supervisor) (m : Mode) (b : Option Battery) (l : List Began) (j : ℕ) (t : Tick) (i : Inv s m b l j) where
-  abbrev began-now : Began
-  began-now = record { mode = m; tick = t }
+module _ (p : Place) (t : Tick) (i : Holding p) where
+  abbrev flight : FlightSupervisor
+  flight = p .supervisor .flight
+
+  -- the flight after the tick
+  abbrev pub ticked-flight : FlightSupervisor
+  ticked-flight = tickOf flight (legsIn (p .supervisor)) t .flight
+
+  abbrev pub began-now : Began
+  began-now = record { mode = p .mode; tick = t }
+
+  -- airborne and tilted
+  abbrev pub air : Bool
+  air = isAirborneOf (flight .fsm .mode) && tiltedOf t
 
   -- the tick began airborne and tilted
-  tumbling-is : tumbling began-now ≡ (isAirborneOf (s .flight .fsm .mode) && tiltedOf t)
+  tumbling-is : tumbling began-now ≡ air
   unfolding tumbling tiltedOf
   tumbling-is = ap (λ (x : Mode). isAirborneOf x && tiltedOf t) (i .mode-is)
 
   -- the count one tick on
-  pub run-now : run j (began-now ∷ l) ≡ cond (isAirborneOf (s .flight .fsm .mode) && tiltedOf t) (suc (run j l)) 0
+  pub run-now : run (began-now ∷ p .began) ≡ cond air (suc (run (p .began))) 0
   unfolding run
   run-now = rw tumbling-is
 
-  run-small : run j l ≤ tumblingTicks
+  run-small : run (p .began) ≤ tumblingTicks
   run-small = ⊎-elim (λ u. omega arith) (λ u. omega (arith, u .0)) (i .capped)
 
-  pub one-more : saturatingAddOf (s .flight .counts .«runaway_count») 1 ≡ suc (run j l)
+  pub one-more : saturatingAddOf (flight .counts .«runaway_count») 1 ≡ suc (run (p .began))
   one-more = let e = i .count-is in let h = run-small in omega (arith, e, h)
 
-  tick-run : tickOf (s .flight) (legsIn s) t .flight .counts .«runaway_count» ≡ run j (began-now ∷ l)
-  tick-run = tick-count (s .flight) (legsIn s) t ∙ ap (λ (n : ℕ). cond (isAirborneOf (s .flight .fsm .mode) && tiltedOf t) n 0) one-more ∙ sym run-now
+  tick-run : ticked-flight .counts .«runaway_count» ≡ run (began-now ∷ p .began)
+  tick-run = tick-count flight (legsIn (p .supervisor)) t ∙ ap (λ (n : ℕ). cond air n 0) one-more ∙ sym run-now
 
   -- the tick on which the count is enough
-  pub tick-terminates :
-      (isAirborneOf (s .flight .fsm .mode) && tiltedOf t) ≡ true
-      → tumblingTicks ≤ suc (run j l)
-      → tickOf (s .flight) (legsIn s) t .flight .fsm .mode ≡ Terminated
+  pub tick-terminates : air ≡ true → tumblingTicks ≤ suc (run (p .began)) → ticked-flight .fsm .mode ≡ Terminated
   tick-terminates g h =
-      let a : Mode = tickOf (s .flight) (legsIn s) t .flight .fsm .mode in
-      let q : leb tumblingTicks (suc (run j l)) ≡ true = le-leb tumblingTicks (suc (run j l)) h in
-      let e : isMode a Terminated ≡ true = tick-ends (s .flight) (legsIn s) t ∙ rw (one-more, enough-is (suc (run j l)), q, g) (or-true (isMode (s .flight .fsm .mode) Terminated)) in
+      let a : Mode = ticked-flight .fsm .mode in
+      let q : leb tumblingTicks (suc (run (p .began))) ≡ true = le-leb tumblingTicks (suc (run (p .began))) h in
+      let e : isMode a Terminated ≡ true = tick-ends flight (legsIn (p .supervisor)) t ∙ rw (one-more, enough-is (suc (run (p .began))), q, g) (or-true (isMode (flight .fsm .mode) Terminated)) in
       isMode→eq a Terminated (subst T (sym e) tt)
 
   tick-capped :
       (g : Bool)
-      → (isAirborneOf (s .flight .fsm .mode) && tiltedOf t) ≡ g
-      → (run j (began-now ∷ l) + 1 ≤ tumblingTicks)
-      ⊎ ((run j (began-now ∷ l) ≡ tumblingTicks) × (tickOf (s .flight) (legsIn s) t .flight .fsm .mode ≡ Terminated))
-  tick-capped false e = inl (let r : run j (began-now ∷ l) ≡ 0 = run-now ∙ rw e in omega (arith, r))
+      → air ≡ g
+      → (run (began-now ∷ p .began) + 1 ≤ tumblingTicks)
+      ⊎ ((run (began-now ∷ p .began) ≡ tumblingTicks) × (ticked-flight .fsm .mode ≡ Terminated))
+  tick-capped false e = inl (let r : run (began-now ∷ p .began) ≡ 0 = run-now ∙ rw e in omega (arith, r))
   tick-capped true e =
-      let r : run j (began-now ∷ l) ≡ suc (run j l) = run-now ∙ rw e in
+      let r : run (began-now ∷ p .began) ≡ suc (run (p .began)) = run-now ∙ rw e in
       ⊎-elim
       (λ u.
-      elim (decLe (run j l + 2) tumblingTicks) [
-        | yes p ↦ inl (omega (arith, r, p))
+      elim (decLe (run (p .began) + 2) tumblingTicks) [
+        | yes q ↦ inl (omega (arith, r, q))
         | no q ↦ inr (omega (arith, r, u, q), tick-terminates e (omega (arith, q)))
       ])
-      (λ u. absurd (no-air (s .flight .fsm .mode) (tiltedOf t) (u .1) e))
+      (λ u. absurd (no-air (flight .fsm .mode) (tiltedOf t) (u .1) e))
       (i .capped)
 
-  pub after-tick :
-      Inv (record { flight = tickOf (s .flight) (legsIn s) t .flight; waypoints = s .waypoints; opened = s .opened; «report_due» = dueAfter (tickOf (s .flight) (legsIn s) t .answer) })
-      (tickOf (s .flight) (legsIn s) t .flight .fsm .mode) (ticked b t) (began-now ∷ l) j
+  after-tick : Holding (placeAfter p (acceptedOf (afterOf (p .supervisor) (ticks t)) (outputOf flight (legsIn (p .supervisor)) (ticks t))) (some (ticks t)))
+  unfolding placeAfter acceptedOf answerOf afterOf flightAfter
   after-tick =
       record {
         mode-is = refl;
+        config-is = rw (after-config (p .supervisor) (ticks t) refl) (i .config-is);
         battery-is =
-            ticked-opened b (s .flight .battery) (tickOf (s .flight) (legsIn s) t .flight .battery) t (s .opened) (tick-battery (s .flight) (legsIn s) t) (i .battery-is);
-        shown-is = rw (tick-battery (s .flight) (legsIn s) t) (critical-shown (s .flight .battery) (t .dt) (t .reading) (i .shown-is));
+            ticked-opened (p .battery) (flight .battery) (ticked-flight .battery) t (p .supervisor .opened) (tick-battery flight (legsIn (p .supervisor)) t) (i .battery-is);
+        shown-is = rw (tick-battery flight (legsIn (p .supervisor)) t) (critical-shown (flight .battery) (t .dt) (t .reading) (i .shown-is));
         count-is = tick-run;
-        capped = tick-capped (isAirborneOf (s .flight .fsm .mode) && tiltedOf t) refl;
+        capped = tick-capped air refl;
       }
 
 -- ---- every call
 
--- an opening's battery shows what its latch is
+-- the state with no opening shows what its latch is
 opened-shown : (cfg : BattConfig) → openedBatteryOf cfg .state .critical ≡ openedBatteryOf cfg .est .critical .latched
 opened-shown cfg = ap (λ (x : BattState). x .critical) (opened-state cfg) ∙ none-flags .1 ∙ sym (opened-flags cfg .3)
 
--- the count that an opening brings
-tilt-capped : (m : Mode) (n : ℕ) → SoundTilt m n → (n + 1 ≤ tumblingTicks) ⊎ ((n ≡ tumblingTicks) × (m ≡ Terminated))
-tilt-capped m n k =
-    elim (decLe (n + 1) tumblingTicks) [
-      | yes p ↦ inl p
-      | no q ↦ let e : n ≡ tumblingTicks = omega (arith, k .at-most, q) in inr (e, k .ended e)
-    ]
-
 -- an accepted call
-after-took :
-    (s : Supervisor) (m : Mode) (b : Option Battery) (l : List Began) (j : ℕ) (r : Request)
-    → refusalOf s r ≡ 0
-    → Inv s m b l j
-    → Inv (afterOf s r) (afterOf s r .flight .fsm .mode) (nextBattery b (some r)) (nextBegan m l (some r)) (nextCarried j (some r))
-unfolding afterOf flightAfter waypointsAfter outputOf run
-after-took s m b l j (opens o) e i =
-    let k = start-sound s o e in
-    record { mode-is = refl; battery-is = refl; shown-is = k .battery .critical-shown; count-is = refl; capped = tilt-capped _ _ (k .tilt) }
-after-took s m b l j (ticks t) e i = after-tick s m b l j t i
-after-took s m b l j (reports failed) e i =
-    kept s _ m b l j i refl (report-battery (s .flight) failed) (ap (λ (n : Counts). n .«runaway_count») (report-counts (s .flight) failed)) (report-terminated (s .flight) failed)
-after-took s m b l j (commands ev level low) e i =
-    kept s _ m b l j i refl (command-battery (s .flight) ev level low) (ap (λ (n : Counts). n .«runaway_count») (command-counts (s .flight) ev level low))
-    (command-terminated (s .flight) level low ev)
-after-took s m b l j (plans p) e i =
-    kept s _ m b l j i refl (planned-battery (s .flight) p) (ap (λ (n : Counts). n .«runaway_count») (planned-counts (s .flight) p)) (λ e. planned-mode (s .flight) p ∙ e)
+after-accepted :
+    (p : Place) (r : Request)
+    → refusalOf (p .supervisor) r ≡ 0
+    → Holding p
+    → Holding (placeAfter p (acceptedOf (afterOf (p .supervisor) r) (outputOf (p .supervisor .flight) (legsIn (p .supervisor)) r)) (some r))
+unfolding placeAfter acceptedOf answerOf afterOf flightAfter run
+after-accepted p (opens o) e i =
+    let k = start-sound (p .supervisor) o e in
+    record { mode-is = refl; config-is = refl; battery-is = refl; shown-is = k .battery .critical-shown; count-is = start-untilted o; capped = inl (omega arith) }
+after-accepted p (ticks t) e i = after-tick p t i
+after-accepted p (reports failed) e i =
+    kept p _ i refl (after-config (p .supervisor) (reports failed) refl) (report-battery (p .supervisor .flight) failed) (report-counts (p .supervisor .flight) failed)
+    (report-terminated (p .supervisor .flight) failed)
+after-accepted p (commands ev level low) e i =
+    kept p _ i refl (after-config (p .supervisor) (commands ev level low) refl) (command-battery (p .supervisor .flight) ev level low)
+    (command-counts (p .supervisor .flight) ev level low)
+    (command-terminated (p .supervisor .flight) level low ev)
+after-accepted p (plans x) e i =
+    kept p _ i refl (after-config (p .supervisor) (plans x) refl) (planned-battery (p .supervisor .flight) x) (planned-counts (p .supervisor .flight) x)
+    (λ m. planned-mode (p .supervisor .flight) x ∙ m)
 
-after-seen :
-    (s : Supervisor) (m : Mode) (b : Option Battery) (l : List Began) (j : ℕ) (a : Answered) (k : Option Request)
-    → Seen s a k
-    → Inv s m b l j
-    → Inv (a .supervisor) (nextMode m a) (nextBattery b k) (nextBegan m l k) (nextCarried j k)
-after-seen s m b l j _ _ (refused n) i = after-refused s m b l j n i
-after-seen s m b l j _ _ (took r e) i =
-    rw (accepted-state (afterOf s r) (outputOf (s .flight) (legsIn s) r), accepted-mode (afterOf s r) m (outputOf (s .flight) (legsIn s) r)) (after-took s m b l j r e i)
-
--- the invariant of a place
-abbrev pub Holding : Place → Type 0
-Holding p = Inv (p .supervisor) (p .mode) (p .battery) (p .began) (p .carried)
+after-seen : (p : Place) (a : Answered) (k : Option Request) → Seen (p .supervisor) a k → Holding p → Holding (placeAfter p a k)
+after-seen p _ _ (refused n) i = after-refused p n i
+after-seen p _ _ (accepts r e) i = after-accepted p r e i
 
 pub next-holding : (p : Place) (c : Call) → Holding p → Holding (nextPlace p c)
 unfolding nextPlace
-next-holding p c i = after-seen (p .supervisor) (p .mode) (p .battery) (p .began) (p .carried) _ _ (seen (p .supervisor) c) i
+next-holding p c i = after-seen p _ _ (seen (p .supervisor) c) i
 
 pub place-holding : (p : Place) (l : List Call) → Holding p → Holding (placeFrom p l)
 unfolding placeFrom
@@ -243,4 +241,5 @@ place-holding p (c ∷ l) i = place-holding (nextPlace p c) l (next-holding p c 
 
 pub start-holding : Holding start
 unfolding start unopened openedOf run
-start-holding = record { mode-is = refl; battery-is = refl; shown-is = opened-shown (forOpeningVoltsOf zerof); count-is = refl; capped = inl (omega arith) }
+start-holding =
+    record { mode-is = refl; config-is = refl; battery-is = refl; shown-is = opened-shown (forOpeningVoltsOf zerof); count-is = refl; capped = inl (omega arith) }

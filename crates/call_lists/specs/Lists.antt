@@ -8,13 +8,14 @@ use Rattle.relay_fsm.specs.declared.Mode.{Mode}
 use Rattle.relay_fsm.specs.declared.Mode.the-variants.{Disarmed}
 use Rattle.relay_batt.specs.declared.battery.Battery.{Battery}
 use Rattle.relay_batt.specs.Battery.{updateOf}
+use Rattle.falcon_guidance.specs.declared.state.Config.{Config}
 use Rattle.falcon_guidance.specs.declared.state.Tick.{Tick}
 use Rattle.falcon_core.specs.declared.state.Supervisor.{Supervisor}
 use Rattle.falcon_core.specs.declared.calls.Answered.{Answered}
 use Rattle.falcon_core.specs.State.{unopened}
-use Rattle.falcon_core.specs.Calls.{Request, opens, ticks, reports, commands, plans, startOf}
-use Rattle.requests.specs.Kinds.{Asked, refuses, asks, answeredBy}
-use Rattle.requests.specs.ByLine.{askedWith}
+use Rattle.falcon_core.specs.Calls.{Request, opens, ticks, reports, commands, plans, startOf, stepOf}
+use Rattle.requests.specs.Kinds.{Asked, refuses, asks}
+use Rattle.requests.specs.ByLine.{askedWith, lineStep}
 
 -- "by line or by lent values": a line with its answer buffer in full, or what is asked by values
 pub data Call : Type 0 where
@@ -26,9 +27,10 @@ abbrev pub askedOf : Call → Asked
 askedOf (byValues r) = asks r
 askedOf (byLine line out) = askedWith line out
 
--- the state after a call and its answer: the definition by which `answer` and the six calls are stated
+-- the state after a call and its answer: the definition by which `answer` and the calls by values are stated
 unfoldable pub callStep : Supervisor → Call → Answered
-callStep s c = answeredBy s (askedOf c)
+callStep s (byValues r) = stepOf s r
+callStep s (byLine line out) = lineStep s line out
 
 -- "Accepted means that the refusal answered is 0."
 abbrev pub accepted : Answered → Bool
@@ -40,25 +42,34 @@ requested (refuses n) = none
 requested (asks r) = some r
 
 -- what a call asks, if it is accepted
-unfoldable pub taken : Supervisor → Call → Option Request
-taken s c = cond (accepted (callStep s c)) (requested (askedOf c)) none
+unfoldable pub acceptedRequest : Supervisor → Call → Option Request
+acceptedRequest s c = cond (accepted (callStep s c)) (requested (askedOf c)) none
 
 -- an accepted tick and the mode that it began in
 pub record Began : Type 0 where
   pub mode : Mode
   pub tick : Tick
 
--- a place: the state there, the mode there, the battery there, and the accepted ticks since the latest accepted opening, the latest first, with what that opening brought
+-- a place: the state there, the mode there, and since the latest accepted opening its configuration, the battery, and the accepted ticks, the latest first
 pub record Place : Type 0 where
   pub supervisor : Supervisor
   pub mode : Mode
+  pub config : Option Config
   pub battery : Option Battery
   pub began : List Began
-  pub carried : ℕ
 
 -- "The mode there is the one that the latest accepted call answered, 0 before any."
 abbrev pub nextMode : Mode → Answered → Mode
 nextMode m a = cond (accepted a) (a .answer .mode) m
+
+-- the configuration that the latest accepted opening sets, none before one
+abbrev pub nextConfig : Option Config → Option Request → Option Config
+nextConfig c none = c
+nextConfig c (some (opens o)) = some (startOf o .config)
+nextConfig c (some (ticks t)) = c
+nextConfig c (some (reports failed)) = c
+nextConfig c (some (commands ev level low)) = c
+nextConfig c (some (plans p)) = c
 
 -- the battery run over one accepted tick's dt and reading
 abbrev pub ticked : Option Battery → Tick → Option Battery
@@ -83,25 +94,20 @@ nextBegan m l (some (reports failed)) = l
 nextBegan m l (some (commands ev level low)) = l
 nextBegan m l (some (plans p)) = l
 
--- the ticks in a row, airborne and tilted, that the latest accepted opening brings with it
-abbrev pub nextCarried : ℕ → Option Request → ℕ
-nextCarried n none = n
-nextCarried n (some (opens o)) = startOf o .counts .«runaway_count»
-nextCarried n (some (ticks t)) = n
-nextCarried n (some (reports failed)) = n
-nextCarried n (some (commands ev level low)) = n
-nextCarried n (some (plans p)) = n
+-- the place after a call with this answer, which accepted this request, if any
+unfoldable pub placeAfter : Place → Answered → Option Request → Place
+placeAfter p a r =
+    record {
+      supervisor = a .supervisor;
+      mode = nextMode (p .mode) a;
+      config = nextConfig (p .config) r;
+      battery = nextBattery (p .battery) r;
+      began = nextBegan (p .mode) (p .began) r;
+    }
 
 -- "each further one the state that the call before it returned, after a refusal too"
 unfoldable pub nextPlace : Place → Call → Place
-nextPlace p c =
-    record {
-      supervisor = callStep (p .supervisor) c .supervisor;
-      mode = nextMode (p .mode) (callStep (p .supervisor) c);
-      battery = nextBattery (p .battery) (taken (p .supervisor) c);
-      began = nextBegan (p .mode) (p .began) (taken (p .supervisor) c);
-      carried = nextCarried (p .carried) (taken (p .supervisor) c);
-    }
+nextPlace p c = placeAfter p (callStep (p .supervisor) c) (acceptedRequest (p .supervisor) c)
 
 -- the place after a list of calls, first call first
 unfoldable pub placeFrom : Place → List Call → Place
@@ -110,7 +116,7 @@ placeFrom p (c ∷ l) = placeFrom (nextPlace p c) l
 
 -- "The first call gets the state with no opening": the place before the first call
 unfoldable pub start : Place
-start = record { supervisor = unopened; mode = Disarmed; battery = none; began = []; carried = 0 }
+start = record { supervisor = unopened; mode = Disarmed; config = none; battery = none; began = [] }
 
 -- the place after these calls
 abbrev pub placeAt : List Call → Place
@@ -133,7 +139,7 @@ calm (some (plans p)) = true
 -- "no command or opening is accepted" among the calls after a place
 unfoldable pub calmFrom : Place → List Call → Bool
 calmFrom p [] = true
-calmFrom p (c ∷ l) = calm (taken (p .supervisor) c) && calmFrom (nextPlace p c) l
+calmFrom p (c ∷ l) = calm (acceptedRequest (p .supervisor) c) && calmFrom (nextPlace p c) l
 
 -- 1 for an accepted tick
 abbrev pub tickCount : Option Request → ℕ
@@ -147,4 +153,4 @@ tickCount (some (plans p)) = 0
 -- the accepted ticks among the calls after a place
 unfoldable pub ticksFrom : Place → List Call → ℕ
 ticksFrom p [] = 0
-ticksFrom p (c ∷ l) = tickCount (taken (p .supervisor) c) + ticksFrom (nextPlace p c) l
+ticksFrom p (c ∷ l) = tickCount (acceptedRequest (p .supervisor) c) + ticksFrom (nextPlace p c) l

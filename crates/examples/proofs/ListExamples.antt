@@ -24,7 +24,7 @@ use Rattle.relay_batt.specs.Config.{defaultOf, forOpeningVoltsOf, capacityOf, c
 use Rattle.relay_batt.specs.Curve.{sanitizeOf, knots, walk, tableOf, ocvSocCellOf}
 use Rattle.relay_batt.specs.Estimator.{noneOf, shownOf, newOf, resetOf, consumedOf, bigStepOf, blendOf, rEstOf, restOf, socCoulombOf, socOf, withAmpsOf, voltsOnlyOf, updateAmpsOf, updateVoltsOf}
 use Rattle.relay_batt.specs.Latch.{tripOf}
-use Rattle.falcon_core.specs.Calls.{refusalOf, commandedBy, startOf, startPoints, plannedOf, flightAfter, waypointsAfter, afterOf, outputOf, answerOf, refusedOf, acceptedOf, stepOf, numbersOf}
+use Rattle.falcon_core.specs.Calls.{shapeRefusal, sequenceRefusal, stateRefusal, refusalOf, commandedBy, startOf, startPoints, plannedOf, flightAfter, waypointsAfter, afterOf, outputOf, answerOf, refusedOf, acceptedOf, stepOf, numbersOf}
 use Rattle.falcon_failsafe.specs.Failsafe.{clearedOf, breachOf, breachGives, breachedOf, tiltedOf, runawayEnough, runawayCounted, runawayGives, runawayOf, gustyOf, windEnough, windCounted, windGives, windOf, reportedOf}
 use Rattle.falcon_guidance.specs.Geometry.{lengthOf, distanceOf}
 use Rattle.falcon_hold.specs.Hold.{horizSpeedOf, brakePointOf, enteredOf, restOf as holdRestOf, brakedOf, leftOf, keptOf, heldOf}
@@ -41,7 +41,7 @@ use Rattle.requests.specs.Line.{limitFields, readingLine, askedLine}
 use Rattle.columns.specs.Field.{inRange, digits, start as fieldStart, spaced, readField, kindOf, column, columns, fieldOf, put}
 use Rattle.requests.specs.Kinds.{openingFrom, openingLine, readingFrom, batteryOk, tickFrom, tickOk, tickLine, reportLine, commandLine, pointsLine, zonesLine, requestOf}
 use Rattle.columns.specs.Line.{onto, before, fields, lengthOk, readWithin, lineOf, readingOf}
-use Rattle.call_lists.specs.Lists.{callStep, taken, nextPlace, placeFrom, start, calmFrom, ticksFrom}
+use Rattle.call_lists.specs.Lists.{callStep, acceptedRequest, placeAfter, nextPlace, placeFrom, start, calmFrom, ticksFrom}
 use Rattle.call_lists.specs.Lists.{Call, byValues, byLine, Place, latchOf}
 
 -- home 0, fence 100, cruise 10, opening volts 14
@@ -125,5 +125,5 @@ seen-in-lists :
     × (latches start (flying ++ (flat ∷ quiet ∷ flat ∷ [])) ≡ false ∷ false ∷ false ∷ false ∷ false ∷ false ∷ false ∷ true ∷ [])
     × (final 0 (modes start (flying ++ tumble 49)) ≡ 2)
     × (final 0 (modes start (flying ++ tumble 50)) ≡ 7)
-unfolding opening tick flat tilted quiet flying modes latches tumble final rootBy wholeRoot radicand dropped rounded ranged rootOf maxOf clampOf eventAt rowOf onOf allChecks bitOf withBitOf setOf legacyPassedOf failsOf failingMaskOf outstandingOf firstIn firstBlockerOf openedOf heardOf updateOf lostOf runOf defaultOf forOpeningVoltsOf capacityOf cellsOf sanitizeOf knots walk tableOf ocvSocCellOf noneOf shownOf newOf resetOf consumedOf bigStepOf blendOf rEstOf restOf socCoulombOf socOf withAmpsOf voltsOnlyOf updateAmpsOf updateVoltsOf tripOf refusalOf commandedBy startOf startPoints plannedOf flightAfter waypointsAfter afterOf outputOf answerOf refusedOf acceptedOf stepOf numbersOf clearedOf breachOf breachGives breachedOf tiltedOf runawayEnough runawayCounted runawayGives runawayOf gustyOf windEnough windCounted windGives windOf reportedOf lengthOf distanceOf horizSpeedOf brakePointOf enteredOf holdRestOf brakedOf leftOf keptOf heldOf heightOf highOf nearHomeOf nearGroundOf distance3Of arrivedOf milestoneGives legOf advancedOf milestoneOf waypointAdmissibleOf pointAtOf triedOf allAdmissibleOf storedOf loadedOf loadedPointsOf waypointAtOf legWaypointOf currentWaypointOf legsOf outsideGeofenceOf geofenceSaneOf navRowsOf integrityRowsOf readinessRowsOf updatePreflightOf escTelemetryOf landingOf setpointOf commandedOf stateOpenedOf unopened checkedOf poweredOf telemetryOf sensedOf afterBreach afterRunaway afterWind afterMilestone holdingOf answeredOf endedOf tickOf givenOf goalOf bearingOf alongOf perpOf obstructsOf threatensOf tangentOf urgencyOf ringOf deflectedOf aroundOf aroundAllOf avoidOf zoneAtOf zonesKeptOf storedZonesOf loadedZonesOf askedLine askedWith lineStep replyOf bufferAfter inRange digits fieldStart spaced readField column columns fieldOf put openingFrom openingLine readingFrom batteryOk tickFrom tickOk tickLine reportLine commandLine pointsLine zonesLine requestOf onto before fields lengthOk readWithin lineOf readingOf callStep taken nextPlace placeFrom start calmFrom ticksFrom add sub mul div neg lt eq le ne ofBits ofInt round units isNan size toBits kindOf needFields needOf extraOf replyNumbers limitFields readingLine
+unfolding opening tick flat tilted quiet flying modes latches tumble final rootBy wholeRoot radicand dropped rounded ranged rootOf maxOf clampOf eventAt rowOf onOf allChecks bitOf withBitOf setOf legacyPassedOf failsOf failingMaskOf outstandingOf firstIn firstBlockerOf openedOf heardOf updateOf lostOf runOf defaultOf forOpeningVoltsOf capacityOf cellsOf sanitizeOf knots walk tableOf ocvSocCellOf noneOf shownOf newOf resetOf consumedOf bigStepOf blendOf rEstOf restOf socCoulombOf socOf withAmpsOf voltsOnlyOf updateAmpsOf updateVoltsOf tripOf shapeRefusal sequenceRefusal stateRefusal refusalOf commandedBy startOf startPoints plannedOf flightAfter waypointsAfter afterOf outputOf answerOf refusedOf acceptedOf stepOf numbersOf clearedOf breachOf breachGives breachedOf tiltedOf runawayEnough runawayCounted runawayGives runawayOf gustyOf windEnough windCounted windGives windOf reportedOf lengthOf distanceOf horizSpeedOf brakePointOf enteredOf holdRestOf brakedOf leftOf keptOf heldOf heightOf highOf nearHomeOf nearGroundOf distance3Of arrivedOf milestoneGives legOf advancedOf milestoneOf waypointAdmissibleOf pointAtOf triedOf allAdmissibleOf storedOf loadedOf loadedPointsOf waypointAtOf legWaypointOf currentWaypointOf legsOf outsideGeofenceOf geofenceSaneOf navRowsOf integrityRowsOf readinessRowsOf updatePreflightOf escTelemetryOf landingOf setpointOf commandedOf stateOpenedOf unopened checkedOf poweredOf telemetryOf sensedOf afterBreach afterRunaway afterWind afterMilestone holdingOf answeredOf endedOf tickOf givenOf goalOf bearingOf alongOf perpOf obstructsOf threatensOf tangentOf urgencyOf ringOf deflectedOf aroundOf aroundAllOf avoidOf zoneAtOf zonesKeptOf storedZonesOf loadedZonesOf askedLine askedWith lineStep replyOf bufferAfter inRange digits fieldStart spaced readField column columns fieldOf put openingFrom openingLine readingFrom batteryOk tickFrom tickOk tickLine reportLine commandLine pointsLine zonesLine requestOf onto before fields lengthOk readWithin lineOf readingOf callStep acceptedRequest placeAfter nextPlace placeFrom start calmFrom ticksFrom add sub mul div neg lt eq le ne ofBits ofInt round units isNan size toBits kindOf needFields needOf extraOf replyNumbers limitFields readingLine
 seen-in-lists = (refl, refl, refl, refl)

@@ -223,6 +223,11 @@ pub start-sound : (s : Supervisor) (o : Opening) → refusalOf s (opens o) ≡ 0
 unfolding startOf startPoints
 start-sound s o e = opened-sound o (masks-below (o .required) (o .passed) (accepted-passed s (opens o) e .in-range))
 
+-- with no tilted tick counted
+pub start-untilted : (o : Opening) → startOf o .counts .«runaway_count» ≡ 0
+unfolding startOf openedOf
+start-untilted o = refl
+
 planned-sound : (f : FlightSupervisor) (ps : List Point) (p : Planning) → SoundFlight f ps → planRefused f p ≡ false → SoundFlight (plannedOf f p) (pointsAfter ps p)
 unfolding plannedOf
 planned-sound f ps (points l) k e =

@@ -66,7 +66,8 @@ planned-config : (f : FlightSupervisor) (p : Planning) → plannedOf f p .config
 unfolding plannedOf
 planned-config f p = refl
 
-after-config : (s : Supervisor) (r : Request) → isOpening r ≡ false → afterOf s r .flight .config ≡ s .flight .config
+-- an accepted call that is no opening leaves the configuration
+pub after-config : (s : Supervisor) (r : Request) → isOpening r ≡ false → afterOf s r .flight .config ≡ s .flight .config
 unfolding afterOf flightAfter commandedBy
 after-config s (opens o) h = absurd (subst T h tt)
 after-config s (ticks t) h = tick-config (s .flight) (legsIn s) t
