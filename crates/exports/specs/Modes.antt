@@ -18,6 +18,10 @@ use Rattle.exports.specs.Numbers.{unknown, flag, bit}
 abbrev pub modes : List Mode
 modes = Disarmed ∷ Armed ∷ Takeoff ∷ Loiter ∷ Mission ∷ Land ∷ Rtl ∷ Terminated ∷ []
 
+-- how many modes there are
+abbrev pub modeCount : ℕ
+modeCount = 8
+
 -- the mode with a number below 8
 unfoldable pub modeAt : ℕ → Mode
 modeAt n = getD modes n Disarmed
@@ -33,12 +37,12 @@ onFound m Unknown g = unknown
 
 -- `FlightFsm::on` by numbers
 unfoldable pub onNumber : ℕ → ℕ → ℕ → ℕ
-onNumber m e g = cond (ltb m 8) (onFound (modeAt m) (eventAt e) (gatesFrom g)) unknown
+onNumber m e g = cond (ltb m modeCount) (onFound (modeAt m) (eventAt e) (gatesFrom g)) unknown
 
 -- the supervisor's `mode_rank` by numbers
 unfoldable pub rankNumber : ℕ → ℕ
-rankNumber m = cond (ltb m 8) (rankOf (modeAt m)) unknown
+rankNumber m = cond (ltb m modeCount) (rankOf (modeAt m)) unknown
 
 -- `Mode::is_airborne` by numbers
 unfoldable pub airborneNumber : ℕ → ℕ
-airborneNumber m = cond (ltb m 8) (flag (isAirborneOf (modeAt m))) unknown
+airborneNumber m = cond (ltb m modeCount) (flag (isAirborneOf (modeAt m))) unknown

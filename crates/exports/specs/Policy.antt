@@ -15,6 +15,10 @@ use Rattle.exports.specs.Numbers.{unknown, bit}
 abbrev pub actions : List FailsafeAction
 actions = None ∷ Hold ∷ Rtl ∷ Land ∷ Terminate ∷ []
 
+-- how many actions there are
+abbrev pub actionCount : ℕ
+actionCount = 5
+
 -- the action of a severity below 5
 unfoldable pub actionAt : ℕ → FailsafeAction
 actionAt n = getD actions n None
@@ -41,4 +45,4 @@ latching a = record { latched = a }
 
 -- `FailsafeArbiter::evaluate` by numbers
 unfoldable pub evaluateNumber : ℕ → ℕ → ℕ
-evaluateNumber latched t = cond (ltb latched 5) (severityOf (evaluateOf (latching (actionAt latched)) (triggersFrom t) .latched)) unknown
+evaluateNumber latched t = cond (ltb latched actionCount) (severityOf (evaluateOf (latching (actionAt latched)) (triggersFrom t) .latched)) unknown

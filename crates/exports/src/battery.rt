@@ -14,11 +14,11 @@ use relay_batt::TripLatch;
 use relay_math::from_bits;
 use relay_math::to_bits;
 ghost use mathlib.Core.Path.{_≡_};
-ghost use Prim.Native.Nat.{_≤_};
+ghost use Prim.Native.Nat.{_≤_, _<_};
 ghost use lib.ListN.{length};
 ghost use lib.Seq.{sets};
 ghost use Rattle.exports.specs.Battery.{configFrom, latchFrom, estimatorFrom, stateFrom, batteryFrom, readingFrom, newFrom, updateFrom};
-ghost use Rattle.exports.specs.Battery.{configNumbers, estimatorNumbers, stateNumbers, silenceNumbers, batteryNumbers, shortNumber, storedOf};
+ghost use Rattle.exports.specs.Battery.{size, configNumbers, estimatorNumbers, stateNumbers, silenceNumbers, batteryNumbers, shortNumber, storedOf};
 
 // How many numbers a battery is.
 const SIZE: usize = 29;
@@ -41,7 +41,7 @@ fn config_from(ns: &[u32]) -> BattConfig
 
 // The latch at a place.
 fn latch_from(ns: &[u32], i: usize) -> TripLatch
-    requires { ⌜ i ≤ 28 ⌝ }
+    requires { ⌜ i < size ⌝ }
     ensures { λ r. ⌜ r ≡ latchFrom (now (ns .entry)) i ⌝ }
 {
     TripLatch {
@@ -184,7 +184,7 @@ fn silence_numbers(b: Battery) -> [u32; 3]
 
 // Stores a battery's numbers.
 fn put_battery(out: &mut [u32], b: Battery)
-    requires { ⌜ 29 ≤ length (now out) ⌝ }
+    requires { ⌜ size ≤ length (now out) ⌝ }
     ensures { λ _. ⌜ now (out .exit) ≡ sets (now (out .entry)) 0 (batteryNumbers b) ⌝ }
 {
     let est = b.est;

@@ -1,19 +1,18 @@
 // The check table, by its two masks.
 
+use relay_preflight::CHECK_COUNT;
 use relay_preflight::CheckId;
 use relay_preflight::CheckTable;
 use relay_preflight::arm_check_table;
 ghost use mathlib.Core.Path.{_≡_};
 ghost use Prim.Native.Nat.{_<_};
+ghost use Rattle.relay_preflight.specs.Check.{checkCount};
 ghost use Rattle.relay_preflight.specs.Table.{newOf, outstandingOf};
 ghost use Rattle.relay_preflight.specs.Verdict.{firstBlockerOf, blockerNumber};
 ghost use Rattle.exports.specs.Checks.{checkAt, masks, setMasks};
 
-// How many checks there are.
-const COUNT: u32 = 21;
-
 // The checks by their numbers.
-const CHECKS: [CheckId; 21] = [
+const CHECKS: [CheckId; CHECK_COUNT as usize] = [
     CheckId::SensorsHealthy,
     CheckId::EstimatorConverged,
     CheckId::CalibrationPresent,
@@ -39,7 +38,7 @@ const CHECKS: [CheckId; 21] = [
 
 // The check with this number.
 fn check_at(n: u32) -> CheckId
-    requires { ⌜ n < 21 ⌝ }
+    requires { ⌜ n < checkCount ⌝ }
     ensures { λ r. ⌜ r ≡ checkAt n ⌝ }
 {
     let i = n as usize;
@@ -59,7 +58,7 @@ pub extern "C" fn bartsemmo_set(required: u32, passed: u32, id: u32, pass: bool)
     ensures { λ r. ⌜ r ≡ setMasks required passed id pass ⌝ }
 {
     let t = CheckTable::new(required, passed);
-    if id < COUNT {
+    if id < CHECK_COUNT {
         return masks_of(t.set(check_at(id), pass));
     }
     masks_of(t)

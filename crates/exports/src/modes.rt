@@ -10,13 +10,13 @@ use relay_fsm::Gates;
 use relay_fsm::Mode;
 ghost use mathlib.Core.Path.{_≡_};
 ghost use Prim.Native.Nat.{_<_};
-ghost use Rattle.exports.specs.Modes.{modeAt, gatesFrom, onFound, onNumber, rankNumber, airborneNumber};
+ghost use Rattle.exports.specs.Modes.{modeCount, modeAt, gatesFrom, onFound, onNumber, rankNumber, airborneNumber};
 
 // How many modes there are.
 const COUNT: u32 = 8;
 
 // The modes by their numbers.
-const MODES: [Mode; 8] = [
+const MODES: [Mode; COUNT as usize] = [
     Mode::Disarmed,
     Mode::Armed,
     Mode::Takeoff,
@@ -29,7 +29,7 @@ const MODES: [Mode; 8] = [
 
 // The mode with this number.
 fn mode_at(n: u32) -> Mode
-    requires { ⌜ n < 8 ⌝ }
+    requires { ⌜ n < modeCount ⌝ }
     ensures { λ r. ⌜ r ≡ modeAt n ⌝ }
 {
     let i = n as usize;

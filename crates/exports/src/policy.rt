@@ -7,13 +7,13 @@ use relay_fsafe::FailsafeArbiter;
 use relay_fsafe::Triggers;
 ghost use mathlib.Core.Path.{_≡_};
 ghost use Prim.Native.Nat.{_<_};
-ghost use Rattle.exports.specs.Policy.{actionAt, triggersFrom, policyNumber, evaluateNumber};
+ghost use Rattle.exports.specs.Policy.{actionCount, actionAt, triggersFrom, policyNumber, evaluateNumber};
 
 // How many actions there are.
 const COUNT: u32 = 5;
 
 // The actions by their severity.
-const ACTIONS: [FailsafeAction; 5] = [
+const ACTIONS: [FailsafeAction; COUNT as usize] = [
     FailsafeAction::None,
     FailsafeAction::Hold,
     FailsafeAction::Rtl,
@@ -23,7 +23,7 @@ const ACTIONS: [FailsafeAction; 5] = [
 
 // The action of this severity.
 fn action_at(n: u32) -> FailsafeAction
-    requires { ⌜ n < 5 ⌝ }
+    requires { ⌜ n < actionCount ⌝ }
     ensures { λ r. ⌜ r ≡ actionAt n ⌝ }
 {
     let i = n as usize;

@@ -142,25 +142,25 @@ module _ (f : FlightSupervisor) (l : Legs) (t : Tick) where
   -- the milestone lowers it only from Land to Disarmed near the ground
   rank-milestone :
       (rankOf (afterWind f t .fsm .mode) ≤ rankOf (afterMilestone f l t .fsm .mode))
-      ⊎ T (isMode (afterWind f t .fsm .mode) Land && (nearGroundOf t && isMode (afterMilestone f l t .fsm .mode) Disarmed))
+      ⊎ T (isMode (afterWind f t .fsm .mode) Land && (nearGroundOf (afterWind f t .config) t && isMode (afterMilestone f l t .fsm .mode) Disarmed))
   unfolding rowOf onOf
   rank-milestone =
       ⊎-elim (λ u. inl (leb→le _ _ u)) inr
       (either (leb (rankOf (afterWind f t .fsm .mode)) (rankOf (afterMilestone f l t .fsm .mode)))
-      (isMode (afterWind f t .fsm .mode) Land && (nearGroundOf t && isMode (afterMilestone f l t .fsm .mode) Disarmed))
+      (isMode (afterWind f t .fsm .mode) Land && (nearGroundOf (afterWind f t .config) t && isMode (afterMilestone f l t .fsm .mode) Disarmed))
       (milestone-by f l t (λ high home ground arrived more m n. leb (rankOf m) (rankOf n) || (isMode m Land && (ground && isMode n Disarmed))) tt))
 
   pub tick-rank :
       (rankOf (f .fsm .mode) ≤ rankOf (tickOf f l t .flight .fsm .mode))
-      ⊎ (T (nearGroundOf t) × (tickOf f l t .flight .fsm .mode ≡ Disarmed) × T (throughLandOf f l t))
+      ⊎ (T (nearGroundOf (f .config) t) × (tickOf f l t .flight .fsm .mode ≡ Disarmed) × T (throughLandOf f l t))
   tick-rank =
       let m3 : Mode = afterWind f t .fsm .mode in
       let m4 : Mode = afterMilestone f l t .fsm .mode in
-      let g : Bool = nearGroundOf t in
+      let g : Bool = nearGroundOf (afterWind f t .config) t in
       rw (tick-mode f l t)
       (⊎-elim (λ u. inl (le-trans rank-before u))
       (λ u.
       let v : T (g && isMode m4 Disarmed) = and-r (isMode m3 Land) (g && isMode m4 Disarmed) u in
       inr
-      (and-l g (isMode m4 Disarmed) v, isMode→eq m4 Disarmed (and-r g (isMode m4 Disarmed) v), through (and-l (isMode m3 Land) (g && isMode m4 Disarmed) u)))
+      (subst (λ (c : Config). T (nearGroundOf c t)) (wind-config f t) (and-l g (isMode m4 Disarmed) v), isMode→eq m4 Disarmed (and-r g (isMode m4 Disarmed) v), through (and-l (isMode m3 Land) (g && isMode m4 Disarmed) u)))
       rank-milestone)

@@ -81,11 +81,11 @@ module _ (f : FlightSupervisor) (t : Tick) where
 module _ (f : FlightSupervisor) (l : Legs) (t : Tick) where
   pub milestone-by :
       (r : Rule5) → T (milestoneRule r)
-      → T (r (highOf (afterWind f t .config) t) (nearHomeOf (afterWind f t .config) t) (nearGroundOf t) (arrivedOf l t) (moreOf (afterWind f t .mission)) (afterWind f t .fsm .mode) (afterMilestone f l t .fsm .mode))
+      → T (r (highOf (afterWind f t .config) t) (nearHomeOf (afterWind f t .config) t) (nearGroundOf (afterWind f t .config) t) (arrivedOf l t) (moreOf (afterWind f t .mission)) (afterWind f t .fsm .mode) (afterMilestone f l t .fsm .mode))
   unfolding milestoneGives
   milestone-by r h =
       rw (milestone-mode f l t)
-      (at5 (λ a b c d e m. r a b c d e m (modeAfter m (milestoneEvent m a b c d e))) h (highOf (afterWind f t .config) t) (nearHomeOf (afterWind f t .config) t) (nearGroundOf t) (arrivedOf l t) (moreOf (afterWind f t .mission)) (afterWind f t .fsm .mode))
+      (at5 (λ a b c d e m. r a b c d e m (modeAfter m (milestoneEvent m a b c d e))) h (highOf (afterWind f t .config) t) (nearHomeOf (afterWind f t .config) t) (nearGroundOf (afterWind f t .config) t) (arrivedOf l t) (moreOf (afterWind f t .mission)) (afterWind f t .fsm .mode))
 
 pub report-by :
     (r : Bool → Mode → Mode → Bool) → T (reportRule r)

@@ -66,7 +66,7 @@ impl FlightSupervisor {
             calibration_configured: o.calibration_configured,
         };
         let zone = Zone::none();
-        let places = [zone; 8];
+        let places = [zone; Zone::MAX_KEEPOUT_ZONES];
         let hold_xy = Horizontal {
             x: o.home.x,
             y: o.home.y,

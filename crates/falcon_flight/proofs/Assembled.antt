@@ -23,7 +23,7 @@ use Rattle.falcon_failsafe.specs.Failsafe.{gustyOf, windCounted, windGives, win
 use Rattle.falcon_flight.specs.declared.milestone.Reached.{Reached}
 use Rattle.falcon_flight.specs.declared.tick.TickAnswer.{TickAnswer}
 use Rattle.falcon_flight.specs.declared.tick.Ticked.{Ticked}
-use Rattle.falcon_flight.specs.Milestone.{heightOf, highOf, nearHomeOf, nearGroundOf, arrivedOf, legOf, milestoneGives, milestoneBy, milestoneIn, milestoneOf}
+use Rattle.falcon_flight.specs.Milestone.{highOf, nearHomeOf, nearGroundOf, arrivedOf, legOf, milestoneGives, milestoneBy, milestoneIn, milestoneOf}
 use Rattle.falcon_flight.specs.Setpoint.{landingOf, setpointOf, commandedOf, motorsOffOf}
 use Rattle.falcon_flight.specs.Tick.{checkedOf, poweredOf, telemetryOf, sensedOf, afterBreach, afterRunaway, afterWind, afterMilestone}
 use Rattle.falcon_flight.specs.Tick.{holdingOf, waypointAfter, answerIn, answeredOf, endedOf, tickOf}
@@ -61,7 +61,7 @@ module _ (f : FlightSupervisor) (t : Tick) where
       → milestoneOf f l t
       ≡ let r = milestoneIn (f .fsm .mode) (f .config) (l .here) (f .mission) (distanceOf (t .p) (f .config .home)) (t .p) in
       withMode (withMission f (leg r)) (r .mode) (f .«rtl_latched»)
-  unfolding milestoneOf milestoneGives legOf highOf nearHomeOf nearGroundOf heightOf arrivedOf milestoneBy milestoneIn
+  unfolding milestoneOf milestoneGives legOf highOf nearHomeOf nearGroundOf arrivedOf milestoneBy milestoneIn
   milestone-parts l = refl
 
   answered-by :

@@ -66,7 +66,7 @@ module _ (k : ℕ) (f : FlightSupervisor) (l : Legs) (t : Tick) where
       (ap
       (λ (j : ℕ).
       withMode (withMission f (record { «wp_count» = k + n; «wp_index» = j }))
-      (modeAfter m (milestoneEvent m (highOf (f .config) t) (nearHomeOf (f .config) t) (nearGroundOf t) (arrivedOf l t) (ltb (i + 1) n))) (f .«rtl_latched»))
+      (modeAfter m (milestoneEvent m (highOf (f .config) t) (nearHomeOf (f .config) t) (nearGroundOf (f .config) t) (arrivedOf l t) (ltb (i + 1) n))) (f .«rtl_latched»))
       (leg-further k i (isMode m InMission && arrivedOf l t && ltb (i + 1) n)))
 
   answered-further : (p : Point) (off : Bool) → motorsOffOf (f .fsm .mode) ≡ off → answeredOf (furtherOf k f) p t ≡ furtherTicked k (answeredOf f p t)

@@ -40,6 +40,6 @@ touchdown-by Rtl high home ground arrived more h = cc (given-by home ReachedHome
 touchdown-by Terminated high home ground arrived more h = cc
 
 -- a touchdown is told only below 0.15
-pub touchdown-low : (f : FlightSupervisor) (l : Legs) (t : Tick) → milestoneGives f l t ≡ some Touchdown → nearGroundOf t ≡ true
+pub touchdown-low : (f : FlightSupervisor) (l : Legs) (t : Tick) → milestoneGives f l t ≡ some Touchdown → nearGroundOf (f .config) t ≡ true
 unfolding milestoneGives
-touchdown-low f l t h = touchdown-by (f .fsm .mode) _ _ (nearGroundOf t) _ _ h
+touchdown-low f l t h = touchdown-by (f .fsm .mode) _ _ (nearGroundOf (f .config) t) _ _ h

@@ -3,7 +3,7 @@ use Prim.Native.Nat.{ℕ, _+_}
 use mathlib.Core.Bool.{Bool, cond, _&&_}
 use mathlib.Core.Option.{Option, none, some}
 use lib.Dec.{ltb}
-use lib.Ieee.{Float, binary32, ofBits, add, sub, mul, neg, lt}
+use lib.Ieee.{Float, binary32, ofBits, add, sub, mul, lt}
 use Rattle.relay_math.specs.Root.{root}
 use Rattle.relay_fsm.specs.declared.Mode.{Mode}
 use Rattle.relay_fsm.specs.declared.Mode.the-variants.{Disarmed, Armed, Takeoff, Loiter, Mission, Land, Rtl, Terminated}
@@ -18,7 +18,7 @@ use Rattle.falcon_guidance.specs.declared.state.Mission.{Mission as MissionStat
 use Rattle.falcon_guidance.specs.declared.state.Legs.{Legs}
 use Rattle.falcon_failsafe.specs.declared.state.FlightSupervisor.{FlightSupervisor}
 use Rattle.falcon_failsafe.specs.State.{withMode, withMission}
-use Rattle.falcon_guidance.specs.Geometry.{distanceOf}
+use Rattle.falcon_guidance.specs.Geometry.{distanceOf, heightOf}
 use Rattle.falcon_failsafe.specs.Failsafe.{inFlight, modeAfter}
 use Rattle.falcon_flight.specs.declared.milestone.Reached.{Reached}
 
@@ -35,16 +35,12 @@ touchdownAlt = ofBits binary32 0x3e19_999a
 abbrev pub waypointRadius : Float
 waypointRadius = ofBits binary32 0x3f99_999a
 
--- "Height is `−p[2]`."
-unfoldable pub heightOf : Tick → Float
-heightOf t = neg (t .p .z)
-
 -- the height is above the cruise height less 0.2
 abbrev pub highAt : Float → Float → Bool
 highAt cruise height = lt (sub binary32 cruise altitudeMargin) height
 
 unfoldable pub highOf : Config → Tick → Bool
-highOf c t = highAt (c .«cruise_alt») (heightOf t)
+highOf c t = highAt (c .«cruise_alt») (heightOf c (t .p))
 
 -- the horizontal distance from home is below 0.4
 abbrev pub nearHomeAt : Float → Bool
@@ -57,8 +53,8 @@ nearHomeOf c t = nearHomeAt (distanceOf (t .p) (c .home))
 abbrev pub nearGroundAt : Float → Bool
 nearGroundAt height = lt height touchdownAlt
 
-unfoldable pub nearGroundOf : Tick → Bool
-nearGroundOf t = nearGroundAt (heightOf t)
+unfoldable pub nearGroundOf : Config → Tick → Bool
+nearGroundOf c t = nearGroundAt (heightOf c (t .p))
 
 -- `wd`: the distance of two points
 unfoldable pub distance3Of : Point → Point → Float
@@ -92,7 +88,7 @@ milestoneEvent Terminated high home ground arrived more = none
 
 unfoldable pub milestoneGives : FlightSupervisor → Legs → Tick → Option Event
 milestoneGives f l t =
-    milestoneEvent (f .fsm .mode) (highOf (f .config) t) (nearHomeOf (f .config) t) (nearGroundOf t) (arrivedOf l t) (moreOf (f .mission))
+    milestoneEvent (f .fsm .mode) (highOf (f .config) t) (nearHomeOf (f .config) t) (nearGroundOf (f .config) t) (arrivedOf l t) (moreOf (f .mission))
 
 -- the leg: one further in Mission where the waypoint is reached and another follows
 abbrev pub legIn : Mode → Bool → MissionState → ℕ
@@ -109,7 +105,7 @@ milestoneBy m here s high home ground p =
 -- at this distance from home and this point
 unfoldable pub milestoneIn : Mode → Config → Point → MissionState → Float → Point → Reached
 milestoneIn m c here s home p =
-    let height = neg (p .z) in milestoneBy m here s (highAt (c .«cruise_alt») height) (nearHomeAt home) (nearGroundAt height) p
+    let height = heightOf c p in milestoneBy m here s (highAt (c .«cruise_alt») height) (nearHomeAt home) (nearGroundAt height) p
 
 -- a waypoint reached in Mission: the next leg, or the return after the last
 unfoldable pub advancedOf : FlightSupervisor → FlightSupervisor

@@ -6,6 +6,7 @@ ghost use lib.Dec.{ltb};
 ghost use Rattle.falcon_flight.specs.Milestone.{highAt, nearHomeAt, nearGroundAt, distance3Of, arrivedAt, milestoneBy, milestoneIn};
 use falcon_failsafe::failsafe::in_flight;
 use falcon_failsafe::failsafe::on_if;
+use falcon_guidance::geometry::height;
 use falcon_guidance::state::Config;
 use falcon_guidance::state::Mission;
 use falcon_guidance::state::Point;
@@ -136,7 +137,7 @@ pub(crate) fn milestone(
 ) -> Reached
     ensures { λ r. ⌜ r ≡ milestoneIn mode c here m home p ⌝ }
 {
-    let height = -p.z;
+    let height = height(c, p);
     milestone_by(
         mode,
         here,

@@ -4,11 +4,11 @@ use native.Mathlib.Omega.{arith}
 use mathlib.Core.List.{List}
 use lib.ListN.{length}
 use lib.Ieee.{Float}
-use Rattle.falcon_guidance.specs.State.{maxKeepoutZones}
+use Rattle.falcon_guidance.specs.State.{maxKeepoutZones, zoneNumbers}
 use Rattle.falcon_guidance.specs.Zones.{keptOf}
 
 -- the zones kept are lent
-pub kept-lent : (l : List Float) → 4 * keptOf l ≤ length l
+pub kept-lent : (l : List Float) → zoneNumbers * keptOf l ≤ length l
 unfolding keptOf
 kept-lent l = omega arith
 

@@ -11,7 +11,7 @@ use lib.Ieee.{Float}
 use Rattle.falcon_guidance.specs.declared.state.Point.{Point}
 use Rattle.falcon_guidance.specs.declared.state.Config.{Config}
 use Rattle.falcon_guidance.specs.Mission.{waypointAdmissibleOf, pointAtOf, triedOf, allAdmissibleOf, waypointAtOf}
-use Rattle.falcon_guidance.specs.State.{maxWaypoints, nowhere}
+use Rattle.falcon_guidance.specs.State.{maxWaypoints, pointNumbers, nowhere}
 
 and-false : (a : Bool) → (a && false) ≡ false
 and-false true = refl
@@ -28,7 +28,7 @@ one-bad c l i (suc n) h e =
     ]
 
 -- the points tried are lent
-pub tried-lent : (l : List Float) → 3 * triedOf l ≤ length l
+pub tried-lent : (l : List Float) → pointNumbers * triedOf l ≤ length l
 unfolding triedOf
 tried-lent l = omega arith
 

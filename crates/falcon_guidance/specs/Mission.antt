@@ -10,7 +10,7 @@ use Rattle.falcon_guidance.specs.declared.state.Point.{Point}
 use Rattle.falcon_guidance.specs.declared.state.Config.{Config}
 use Rattle.falcon_guidance.specs.declared.state.Mission.{Mission}
 use Rattle.falcon_guidance.specs.declared.state.Legs.{Legs}
-use Rattle.falcon_guidance.specs.State.{maxWaypoints, origin}
+use Rattle.falcon_guidance.specs.State.{maxWaypoints, pointNumbers, origin}
 use Rattle.falcon_guidance.specs.Geometry.{distanceOf}
 
 -- `MISSION_MIN_ALT_AGL_M` 1.0 and `MISSION_MAX_ALT_AGL_M` 120.0
@@ -26,13 +26,13 @@ waypointAdmissibleOf c p =
     let agl = sub binary32 (c .home .z) (p .z) in
     finite (p .x) && finite (p .y) && finite (p .z) && (le minAltAgl agl && le agl maxAltAgl) && le (distanceOf p (c .home)) (c .«fence_radius»)
 
--- point i of a lent list of three numbers each
+-- point i of a lent list
 unfoldable pub pointAtOf : List Float → ℕ → Point
-pointAtOf l i = record { x = getD l (3 * i) nan; y = getD l (3 * i + 1) nan; z = getD l (3 * i + 2) nan }
+pointAtOf l i = record { x = getD l (pointNumbers * i) nan; y = getD l (pointNumbers * i + 1) nan; z = getD l (pointNumbers * i + 2) nan }
 
 -- "Only the first 16 points are tried and kept."
 unfoldable pub triedOf : List Float → ℕ
-triedOf l = min (length l / 3) maxWaypoints
+triedOf l = min (length l / pointNumbers) maxWaypoints
 
 -- the first n points of a lent list are all admissible
 unfoldable pub allAdmissibleOf : Config → List Float → ℕ → Bool

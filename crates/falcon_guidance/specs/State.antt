@@ -32,3 +32,10 @@ maxWaypoints = 16
 
 abbrev pub maxKeepoutZones : ℕ
 maxKeepoutZones = 8
+
+-- how many numbers of a lent list are a point, and how many a zone: "centre (three) and radius"
+abbrev pub pointNumbers : ℕ
+pointNumbers = 3
+
+abbrev pub zoneNumbers : ℕ
+zoneNumbers = 4

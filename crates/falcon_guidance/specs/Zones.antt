@@ -12,7 +12,7 @@ use Rattle.falcon_guidance.specs.declared.state.Zones.{Zones}
 use Rattle.falcon_guidance.specs.declared.state.Horizontal.{Horizontal}
 use Rattle.falcon_guidance.specs.declared.zones.Goal.{Goal}
 use Rattle.falcon_guidance.specs.declared.zones.Bearing.{Bearing}
-use Rattle.falcon_guidance.specs.State.{maxKeepoutZones, pointOf, zoneOf, noZone, nowhere, zerof}
+use Rattle.falcon_guidance.specs.State.{maxKeepoutZones, zoneNumbers, pointOf, zoneOf, noZone, nowhere, zerof}
 use Rattle.falcon_guidance.specs.Geometry.{lengthOf}
 
 -- `KEEPOUT_MARGIN` 1.6, `KEEPOUT_INFLUENCE` 4.0, `KEEPOUT_LOOKAHEAD` 3.0, and the least distance 1e-3
@@ -114,13 +114,13 @@ avoidOf zs p sp =
     let out = aroundAllOf p (goalOf p sp) zs (min (zs .«zone_count») maxKeepoutZones) (record { x = sp .x; y = sp .y }) in
     record { x = out .x; y = out .y; z = sp .z }
 
--- zone i of a lent list of four numbers each: "centre (three) and radius"
+-- zone i of a lent list: "centre (three) and radius"
 unfoldable pub zoneAtOf : List Float → ℕ → Zone
-zoneAtOf l i = zoneOf (pointOf (getD l (4 * i) nan) (getD l (4 * i + 1) nan) (getD l (4 * i + 2) nan)) (getD l (4 * i + 3) nan)
+zoneAtOf l i = zoneOf (pointOf (getD l (zoneNumbers * i) nan) (getD l (zoneNumbers * i + 1) nan) (getD l (zoneNumbers * i + 2) nan)) (getD l (zoneNumbers * i + 3) nan)
 
 -- "Zones: the first 8, untested"
 unfoldable pub keptOf : List Float → ℕ
-keptOf l = min (length l / 4) maxKeepoutZones
+keptOf l = min (length l / zoneNumbers) maxKeepoutZones
 
 -- the first n zones of a lent list, each in its place, and no zone in every other
 unfoldable pub storedZonesOf : List Float → ℕ → List Zone

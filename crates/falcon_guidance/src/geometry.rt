@@ -1,6 +1,7 @@
-// Distances in the horizontal plane.
+// Distances in the horizontal plane, and the height.
 ghost use mathlib.Core.Path.{_≡_};
-ghost use Rattle.falcon_guidance.specs.Geometry.{lengthOf, distanceOf};
+ghost use Rattle.falcon_guidance.specs.Geometry.{lengthOf, distanceOf, heightOf};
+use crate::state::Config;
 use crate::state::Point;
 use relay_math::sqrtf;
 
@@ -16,4 +17,11 @@ pub fn distance(p: Point, q: Point) -> f32
     ensures { λ r. ⌜ r ≡ distanceOf p q ⌝ }
 {
     length(p.x - q.x, p.y - q.y)
+}
+
+// The height of a position.
+pub fn height(c: Config, p: Point) -> f32
+    ensures { λ r. ⌜ r ≡ heightOf c p ⌝ }
+{
+    -p.z
 }

@@ -2,6 +2,7 @@
 ghost use mathlib.Core.Path.{_≡_};
 ghost use Prim.Native.Nat.{_+_, _*_, _<_, _≤_, min};
 ghost use lib.ListN.{length};
+ghost use Rattle.falcon_guidance.specs.State.{maxWaypoints, pointNumbers};
 ghost use Rattle.falcon_guidance.specs.Mission.{waypointAdmissibleOf, pointAtOf, triedOf, allAdmissibleOf, storedOf, loadedOf};
 ghost use Rattle.falcon_guidance.specs.Mission.{noPoints, loadedPointsOf, waypointAtOf, legsOf};
 use crate::geometry::distance;
@@ -22,15 +23,15 @@ fn waypoint_admissible(c: Config, p: Point) -> bool
     finite & height & (distance(p, home) <= c.fence_radius)
 }
 
-// Point i of a lent list of three numbers each.
+// Point i of a lent list.
 fn point_at(lent: &[f32], i: usize) -> Point
-    requires { ⌜ 3 * i + 2 < length (now lent) ⌝ }
+    requires { ⌜ pointNumbers * i + 2 < length (now lent) ⌝ }
     ensures { λ r. ⌜ r ≡ pointAtOf (now (lent .entry)) i ⌝ }
 {
     Point {
-        x: lent[3 * i],
-        y: lent[3 * i + 1],
-        z: lent[3 * i + 2],
+        x: lent[Point::NUMBERS * i],
+        y: lent[Point::NUMBERS * i + 1],
+        z: lent[Point::NUMBERS * i + 2],
     }
 }
 
@@ -38,7 +39,7 @@ fn point_at(lent: &[f32], i: usize) -> Point
 fn tried(lent: &[f32]) -> usize
     ensures { λ r. ⌜ r ≡ triedOf (now (lent .entry)) ⌝ }
 {
-    let n = lent.len() / 3;
+    let n = lent.len() / Point::NUMBERS;
     if n < Point::MAX_WAYPOINTS {
         return n;
     }
@@ -47,7 +48,7 @@ fn tried(lent: &[f32]) -> usize
 
 // The first n points of a lent list are all admissible.
 fn all_admissible(c: Config, lent: &[f32], n: usize) -> bool
-    requires { ⌜ 3 * n ≤ length (now lent) ⌝ }
+    requires { ⌜ pointNumbers * n ≤ length (now lent) ⌝ }
     ensures { λ r. ⌜ r ≡ allAdmissibleOf c (now (lent .entry)) n ⌝ }
 {
     let mut i = 0;
@@ -70,12 +71,12 @@ pub fn tried_admissible(c: Config, lent: &[f32]) -> bool
 }
 
 // The first n points of a lent list in their places, and the origin in every other.
-fn stored(lent: &[f32], n: usize) -> [Point; 16]
-    requires { ⌜ (3 * n ≤ length (now lent)) × (n ≤ 16) ⌝ }
+fn stored(lent: &[f32], n: usize) -> [Point; Point::MAX_WAYPOINTS]
+    requires { ⌜ (pointNumbers * n ≤ length (now lent)) × (n ≤ maxWaypoints) ⌝ }
     ensures { λ r. ⌜ r ≡ storedOf (now (lent .entry)) n ⌝ }
 {
     let point = Point::origin();
-    let mut points = [point; 16];
+    let mut points = [point; Point::MAX_WAYPOINTS];
     let mut i = 0;
     while i < n {
         points[i] = point_at(lent, i);
@@ -96,7 +97,7 @@ pub fn loaded(lent: &[f32]) -> Mission
 }
 
 // The waypoints of an accepted list.
-pub fn loaded_points(lent: &[f32]) -> [Point; 16]
+pub fn loaded_points(lent: &[f32]) -> [Point; Point::MAX_WAYPOINTS]
     ensures { λ r. ⌜ r ≡ loadedPointsOf (now (lent .entry)) ⌝ }
 {
     let n = tried(lent);
@@ -104,11 +105,11 @@ pub fn loaded_points(lent: &[f32]) -> [Point; 16]
 }
 
 // The places with no waypoint in use.
-pub fn no_points() -> [Point; 16]
+pub fn no_points() -> [Point; Point::MAX_WAYPOINTS]
     ensures { λ r. ⌜ r ≡ noPoints ⌝ }
 {
     let point = Point::origin();
-    [point; 16]
+    [point; Point::MAX_WAYPOINTS]
 }
 
 // The smaller of two numbers.
@@ -132,7 +133,7 @@ fn following(i: u32, last: u32) -> u32
 }
 
 // The waypoint in place i, the origin beyond the places.
-fn waypoint_at(points: [Point; 16], i: u32) -> Point
+fn waypoint_at(points: [Point; Point::MAX_WAYPOINTS], i: u32) -> Point
     ensures { λ r. ⌜ r ≡ waypointAtOf points i ⌝ }
 {
     let at = i as usize;
@@ -143,7 +144,7 @@ fn waypoint_at(points: [Point; 16], i: u32) -> Point
 }
 
 // The waypoints of the active leg and of the next, home where there is none.
-pub fn legs(c: Config, points: [Point; 16], m: Mission) -> Legs
+pub fn legs(c: Config, points: [Point; Point::MAX_WAYPOINTS], m: Mission) -> Legs
     ensures { λ r. ⌜ r ≡ legsOf c points m ⌝ }
 {
     let count = m.wp_count;

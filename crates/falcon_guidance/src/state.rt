@@ -13,6 +13,8 @@ pub struct Point {
 impl Point {
     // How many waypoints are tried and kept.
     pub const MAX_WAYPOINTS: usize = 16;
+    // How many numbers of a lent list are a point.
+    pub const NUMBERS: usize = 3;
     // The lowest and the highest waypoint above home.
     pub const MISSION_MIN_ALT_AGL_M: f32 = 1.0;
 
@@ -47,6 +49,8 @@ pub struct Zone {
 impl Zone {
     // How many zones are kept.
     pub const MAX_KEEPOUT_ZONES: usize = 8;
+    // How many numbers of a lent list are a zone: its centre and radius.
+    pub const NUMBERS: usize = 4;
     // The stand-off beyond the radius.
     pub const KEEPOUT_MARGIN: f32 = 1.6;
     // How far beyond the stand-off a zone deflects.
@@ -151,7 +155,7 @@ pub struct Legs {
 
 // The keep-out zones and how many are in use. Unused places hold no zone.
 pub struct Zones {
-    pub zones: [Zone; 8],
+    pub zones: [Zone; Zone::MAX_KEEPOUT_ZONES],
     pub zone_count: u32,
 }
 

@@ -2,7 +2,7 @@
 ghost use mathlib.Core.Path.{_≡_};
 ghost use Prim.Native.Nat.{_+_, _*_, _<_, _≤_, min};
 ghost use lib.ListN.{length};
-ghost use Rattle.falcon_guidance.specs.State.{maxKeepoutZones};
+ghost use Rattle.falcon_guidance.specs.State.{maxKeepoutZones, zoneNumbers};
 ghost use Rattle.falcon_guidance.specs.Zones.{goalOf, bearingOf, alongOf, perpOf, obstructsOf, threatensOf, tangentOf, urgencyOf};
 ghost use Rattle.falcon_guidance.specs.Zones.{ringOf, deflectedOf, aroundOf, avoidOf, zoneAtOf, keptOf, storedZonesOf, loadedZonesOf};
 use crate::geometry::length;
@@ -172,19 +172,19 @@ pub fn avoid(zs: Zones, p: Point, sp: Point) -> Point
     }
 }
 
-// Zone i of a lent list of four numbers each.
+// Zone i of a lent list.
 fn zone_at(lent: &[f32], i: usize) -> Zone
-    requires { ⌜ 4 * i + 3 < length (now lent) ⌝ }
+    requires { ⌜ zoneNumbers * i + 3 < length (now lent) ⌝ }
     ensures { λ r. ⌜ r ≡ zoneAtOf (now (lent .entry)) i ⌝ }
 {
     let center = Point {
-        x: lent[4 * i],
-        y: lent[4 * i + 1],
-        z: lent[4 * i + 2],
+        x: lent[Zone::NUMBERS * i],
+        y: lent[Zone::NUMBERS * i + 1],
+        z: lent[Zone::NUMBERS * i + 2],
     };
     Zone {
         center,
-        radius: lent[4 * i + 3],
+        radius: lent[Zone::NUMBERS * i + 3],
     }
 }
 
@@ -192,7 +192,7 @@ fn zone_at(lent: &[f32], i: usize) -> Zone
 fn kept(lent: &[f32]) -> usize
     ensures { λ r. ⌜ r ≡ keptOf (now (lent .entry)) ⌝ }
 {
-    let n = lent.len() / 4;
+    let n = lent.len() / Zone::NUMBERS;
     if n < Zone::MAX_KEEPOUT_ZONES {
         return n;
     }
@@ -200,12 +200,12 @@ fn kept(lent: &[f32]) -> usize
 }
 
 // The first n zones of a lent list in their places, and no zone in every other.
-fn stored(lent: &[f32], n: usize) -> [Zone; 8]
-    requires { ⌜ (4 * n ≤ length (now lent)) × (n ≤ 8) ⌝ }
+fn stored(lent: &[f32], n: usize) -> [Zone; Zone::MAX_KEEPOUT_ZONES]
+    requires { ⌜ (zoneNumbers * n ≤ length (now lent)) × (n ≤ maxKeepoutZones) ⌝ }
     ensures { λ r. ⌜ r ≡ storedZonesOf (now (lent .entry)) n ⌝ }
 {
     let zone = Zone::none();
-    let mut zones = [zone; 8];
+    let mut zones = [zone; Zone::MAX_KEEPOUT_ZONES];
     let mut i = 0;
     while i < n {
         zones[i] = zone_at(lent, i);

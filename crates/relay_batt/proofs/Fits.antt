@@ -8,7 +8,7 @@ use lib.Ieee.Scale.{finite}
 use Rattle.relay_math.specs.Small.{clampOf}
 use Rattle.relay_batt.specs.Curve as curve
 use Rattle.relay_batt.specs.Curve.{sanitizeOf, knots, between, walk, tableOf, cellMax, ocvSocCellOf}
-use Rattle.relay_batt.specs.Config.{capacityMin, capacityMax, capacityMah, rInternal, defaultOf, forOpeningVoltsOf, capacityOf, cellsOf}
+use Rattle.relay_batt.specs.Config.{capacityMin, capacityMax, fallbackCapacity, fallbackResistance, defaultOf, forOpeningVoltsOf, capacityOf, cellsOf}
 use Rattle.relay_batt.specs.Latch.{tripOf}
 use Rattle.relay_batt.specs.Estimator.{vMax, iMax, rMin, rMax, noneOf, shownOf, newOf, consumedOf, bigStepOf, blendOf, rEstOf, restOf, socCoulombOf, socOf, withAmpsOf, voltsOnlyOf, cutDt, cutVolts, cutAmps, updateAmpsOf, updateVoltsOf}
 use Rattle.relay_batt.specs.Battery.{openedOf, heardOf, updateOf}
@@ -54,7 +54,7 @@ curve-fits v = table-fits knots (sanitizeOf v curve.zero cellMax curve.zero)
 -- ---- the parts of `update`
 capacity-fits : (c : BattConfig) → FitConfig c → Fit (capacityOf c)
 unfolding capacityOf
-capacity-fits c f = sanitize-fits (c .«capacity_mah») capacityMin capacityMax capacityMah (f .capacity) one-fits (ofBits-fits binary32 _) (ofBits-fits binary32 _)
+capacity-fits c f = sanitize-fits (c .«capacity_mah») capacityMin capacityMax fallbackCapacity (f .capacity) one-fits (ofBits-fits binary32 _) (ofBits-fits binary32 _)
 
 cut-volts-fits : (volts : Float) → Fit volts → Fit (cutVolts volts)
 cut-volts-fits volts f = sanitize-fits volts curve.zero vMax curve.zero f zero-fits (ofBits-fits binary32 _) zero-fits
@@ -62,8 +62,8 @@ cut-volts-fits volts f = sanitize-fits volts curve.zero vMax curve.zero f zero-f
 cut-amps-fits : (amps : Float) → Fit amps → Fit (cutAmps amps)
 cut-amps-fits amps f = sanitize-fits amps curve.zero iMax curve.zero f zero-fits (ofBits-fits binary32 _) zero-fits
 
-r-fits : (r : Float) → Fit r → Fit (sanitizeOf r rMin rMax rInternal)
-r-fits r f = sanitize-fits r rMin rMax rInternal f (ofBits-fits binary32 _) (ofBits-fits binary32 _) (ofBits-fits binary32 _)
+r-fits : (r : Float) → Fit r → Fit (sanitizeOf r rMin rMax fallbackResistance)
+r-fits r f = sanitize-fits r rMin rMax fallbackResistance f (ofBits-fits binary32 _) (ofBits-fits binary32 _) (ofBits-fits binary32 _)
 
 trip-fits : (l : TripLatch) (dt : Float) (below : Bool) (debounce : Float) → Fit (l .«below_s») → Fit (tripOf l dt below debounce .«below_s»)
 trip-fits l dt below debounce h = trip-holds (λ (x : TripLatch). Fit (x .«below_s»)) l dt below debounce h (add-fits binary32 (l .«below_s») dt) zero-fits

@@ -13,7 +13,7 @@ use Rattle.relay_math.specs.Small.{clampOf}
 use Rattle.relay_batt.specs.Bounds.{Within}
 use Rattle.relay_batt.specs.Curve as curve
 use Rattle.relay_batt.specs.Curve.{one, sanitizeOf, ocvSocCellOf}
-use Rattle.relay_batt.specs.Config.{capacityMah, capacityMin, capacityMax, rInternal, defaultOf, capacityOf, cellsOf, forOpeningVoltsOf}
+use Rattle.relay_batt.specs.Config.{capacityMah, capacityMin, capacityMax, fallbackCapacity, fallbackResistance, defaultOf, capacityOf, cellsOf, forOpeningVoltsOf}
 use Rattle.relay_batt.specs.Latch.{tripOf}
 use Rattle.relay_batt.specs.Estimator.{vMax, iMax, dtMax, rMin, rMax, noneOf, shownOf, newOf, consumedOf, bigStepOf, blendOf, rEstOf, restOf, socCoulombOf, socOf, withAmpsOf, voltsOnlyOf, cutDt, cutVolts, cutAmps, updateAmpsOf, updateVoltsOf}
 use Rattle.relay_batt.specs.Battery.{openedOf, heardOf, updateOf, Turn, runOf}
@@ -47,7 +47,7 @@ nonneg-from p (fin false m e) f h = plus m e
 
 pub capacity-within : (cfg : BattConfig) → Within capacityMin capacityMax (capacityOf cfg)
 unfolding capacityOf ofBits le
-capacity-within cfg = sanitize-within (cfg .«capacity_mah») capacityMin capacityMax capacityMah tt tt tt tt
+capacity-within cfg = sanitize-within (cfg .«capacity_mah») capacityMin capacityMax fallbackCapacity tt tt tt tt
 
 capacity-finite : (cfg : BattConfig) → T (finite (capacityOf cfg))
 unfolding ofBits
@@ -92,9 +92,9 @@ pub consumed-within : (e : BatteryEstimator) (dt i : Float) → Within curve.zer
 unfolding consumedOf ofBits
 consumed-within e dt i = let cap = capacityOf (e .cfg) in sanitize-within _ curve.zero cap cap (capacity-finite (e .cfg)) tt (capacity-finite (e .cfg)) (capacity-above (e .cfg))
 
-r-internal-within : (r : Float) → Within rMin rMax (sanitizeOf r rMin rMax rInternal)
+r-internal-within : (r : Float) → Within rMin rMax (sanitizeOf r rMin rMax fallbackResistance)
 unfolding ofBits le
-r-internal-within r = sanitize-within r rMin rMax rInternal tt tt tt tt
+r-internal-within r = sanitize-within r rMin rMax fallbackResistance tt tt tt tt
 
 blend-within : (r dv di : Float) → Within rMin rMax (blendOf r dv di)
 unfolding blendOf

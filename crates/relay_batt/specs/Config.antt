@@ -7,7 +7,7 @@ use lib.Ieee.{Float, binary32, sub, div, ofInt}
 use Rattle.relay_batt.specs.Curve.{f32, one, sanitizeOf}
 use Rattle.relay_batt.specs.declared.config.BattConfig.{BattConfig}
 
--- 5000 mAh
+-- the built-in pack's 5000 mAh
 abbrev pub capacityMah : Float
 capacityMah = f32 0x459c_4000
 
@@ -15,7 +15,7 @@ capacityMah = f32 0x459c_4000
 abbrev pub packCells : ℕ
 packCells = 4
 
--- 0.024 ohm
+-- the built-in pack's 0.024 ohm
 abbrev pub rInternal : Float
 rInternal = f32 0x3cc4_9ba6
 
@@ -58,9 +58,17 @@ capacityMin = one
 abbrev pub capacityMax : Float
 capacityMax = f32 0x4974_2400
 
+-- 5000 mAh, `update`'s literal where the capacity is not finite
+abbrev pub fallbackCapacity : Float
+fallbackCapacity = f32 0x459c_4000
+
+-- 0.024 ohm, the literal of `new` and `update` where the resistance is not finite
+abbrev pub fallbackResistance : Float
+fallbackResistance = f32 0x3cc4_9ba6
+
 -- `cap` of `update`: the capacity cut to 1..1e6, and 5000 where it is not finite
 unfoldable pub capacityOf : BattConfig → Float
-capacityOf cfg = sanitizeOf (cfg .«capacity_mah») capacityMin capacityMax capacityMah
+capacityOf cfg = sanitizeOf (cfg .«capacity_mah») capacityMin capacityMax fallbackCapacity
 
 -- `cells` of `update`: 0 cells count as 1
 unfoldable pub cellsOf : BattConfig → Float

@@ -2,7 +2,7 @@
 use mathlib.Core.Bool.{Bool, true, false, cond, not, _&&_}
 use lib.Ieee.{Float, binary32, add, sub, mul, div, neg, lt, le}
 use Rattle.relay_batt.specs.Curve.{f32, zero, one, sanitizeOf, ocvSocCellOf}
-use Rattle.relay_batt.specs.Config.{rInternal, capacityOf, cellsOf}
+use Rattle.relay_batt.specs.Config.{fallbackResistance, capacityOf, cellsOf}
 use Rattle.relay_batt.specs.Latch.{newLatchOf, tripOf}
 use Rattle.relay_batt.specs.declared.config.BattConfig.{BattConfig}
 use Rattle.relay_batt.specs.declared.estimator.BattState.{BattState}
@@ -63,7 +63,7 @@ unfoldable pub newOf : BattConfig → BatteryEstimator
 newOf cfg = record {
   cfg = cfg;
   «consumed_mah» = zero;
-  «r_est» = sanitizeOf (cfg .«r_internal») rMin rMax rInternal;
+  «r_est» = sanitizeOf (cfg .«r_internal») rMin rMax fallbackResistance;
   «prev_v» = zero;
   «prev_i» = zero;
   «have_prev» = false;
@@ -96,7 +96,7 @@ bigStepOf di = not (le (neg rStepMinA) di && le di rStepMinA)
 unfoldable pub blendOf : Float → Float → Float → Float
 blendOf r dv di =
     let sample = sanitizeOf (div binary32 (neg dv) di) rMin rMax r in
-    sanitizeOf (add binary32 r (mul binary32 rAlpha (sub binary32 sample r))) rMin rMax rInternal
+    sanitizeOf (add binary32 r (mul binary32 rAlpha (sub binary32 sample r))) rMin rMax fallbackResistance
 
 -- `r_est` after a reading: blended where there is a previous one and the step of current is big
 unfoldable pub rEstOf : BatteryEstimator → Float → Float → Float

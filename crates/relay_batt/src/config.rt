@@ -33,6 +33,11 @@ impl BattConfig {
 
     pub const DEBOUNCE_S: f32 = 2.0;
 
+    // `update`'s literal where the capacity is not finite.
+    pub const FALLBACK_CAPACITY_MAH: f32 = 5000.0;
+    // The literal of `new` and `update` where the resistance is not finite.
+    pub const FALLBACK_R_INTERNAL: f32 = 0.024;
+
     pub const CAPACITY_MIN: f32 = 1.0;
 
     pub const CAPACITY_MAX: f32 = 1.0e6;
@@ -75,7 +80,7 @@ impl BattConfig {
             self.capacity_mah,
             Self::CAPACITY_MIN,
             Self::CAPACITY_MAX,
-            Self::CAPACITY_MAH,
+            Self::FALLBACK_CAPACITY_MAH,
         )
     }
 

@@ -82,7 +82,7 @@ impl BatteryEstimator {
             cfg.r_internal,
             Self::R_MIN,
             Self::R_MAX,
-            BattConfig::R_INTERNAL,
+            BattConfig::FALLBACK_R_INTERNAL,
         );
         let low = TripLatch::new();
         let critical = TripLatch::new();
@@ -147,7 +147,7 @@ impl BatteryEstimator {
             r_est + Self::R_ALPHA * (r_sample - r_est),
             Self::R_MIN,
             Self::R_MAX,
-            BattConfig::R_INTERNAL,
+            BattConfig::FALLBACK_R_INTERNAL,
         )
     }
 

@@ -16,8 +16,12 @@ const DAYS: u32 = 500;
 
 const PART: u32 = 1_000;
 
-// Where the shuttle is, tick by tick.
-const NORTH: [f32; 16] = [
+// Where the shuttle is, tick by tick: one of the places north and one of those east.
+const NORTH_PLACES: u32 = 16;
+
+const EAST_PLACES: u32 = 8;
+
+const NORTH: [f32; NORTH_PLACES as usize] = [
     0.0,
     1.5,
     3.0,
@@ -36,7 +40,7 @@ const NORTH: [f32; 16] = [
     2.0,
 ];
 
-const EAST: [f32; 8] = [0.0, 0.5, 1.0, 6.5, 7.0, 7.5, -2.0, -1.0];
+const EAST: [f32; EAST_PLACES as usize] = [0.0, 0.5, 1.0, 6.5, 7.0, 7.5, -2.0, -1.0];
 
 // The sum so far, which wraps at 2^32, with one more number.
 fn added(sum: u64, n: u32) -> u64 {
@@ -67,8 +71,8 @@ fn summed(sum: u64, answer: TickAnswer) -> u64 {
 }
 
 fn tick_at(i: u32) -> Tick {
-    let n = (i % 16) as usize;
-    let e = (i / 16 % 8) as usize;
+    let n = (i % NORTH_PLACES) as usize;
+    let e = (i / NORTH_PLACES % EAST_PLACES) as usize;
     Tick {
         dt: 0.02,
         p: Point::new(NORTH[n], EAST[e], -10.0),

@@ -3,6 +3,9 @@ use borrow.Author.Needs.{needs}
 use Rattle.falcon_flight.proofs.milestone.milestone.Statement.{statement}
 use Rattle.falcon_flight.proofs.milestone.milestone.Tie as tie
 
+height-requires : tie.Need-height-requires
+height-requires c κs = search needs
+
 high-requires : tie.Need-high-requires
 high-requires c κs = search needs
 
@@ -17,9 +20,9 @@ milestone-by-requires c κs = search needs
 
 returns : tie.Need-returns
 unfolding milestoneIn
-returns c = simp (c .milestone-by .ensures, c .before .near-ground .ensures, c .before .before .near-home .ensures, c .before .before .before .high .ensures)
+returns c = simp (c .milestone-by .ensures, c .before .near-ground .ensures, c .before .before .near-home .ensures, c .before .before .before .high .ensures, c .before .before .before .before .height .ensures)
 
 pub milestone-spec : {M : Type 1} → statement M
 milestone-spec =
     tie.close
-    (tie.spec high-requires near-home-requires near-ground-requires milestone-by-requires returns)
+    (tie.spec height-requires high-requires near-home-requires near-ground-requires milestone-by-requires returns)

@@ -3,7 +3,7 @@ use mathlib.Core.Path.{ap, _∙_}
 use lib.Ieee.{Float, binary32, add, sub, mul}
 use borrow.Author.Needs.{needs}
 use Rattle.relay_batt.specs.Curve.{sanitizeOf}
-use Rattle.relay_batt.specs.Config.{rInternal}
+use Rattle.relay_batt.specs.Config.{fallbackResistance}
 use Rattle.relay_batt.specs.Estimator.{rMin, rMax, rAlpha, blendOf}
 use Rattle.relay_batt.proofs.estimator.BatteryEstimator.blend.Statement.{statement}
 use Rattle.relay_batt.proofs.estimator.BatteryEstimator.blend.Tie as tie
@@ -19,7 +19,7 @@ unfolding blendOf
 returns c =
     let r : Float = c .before .before .args .r-est in
     c .sanitize2 .ensures
-    ∙ ap (λ (sample : Float). sanitizeOf (add binary32 r (mul binary32 rAlpha (sub binary32 sample r))) rMin rMax rInternal)
+    ∙ ap (λ (sample : Float). sanitizeOf (add binary32 r (mul binary32 rAlpha (sub binary32 sample r))) rMin rMax fallbackResistance)
     (c .before .sanitize .ensures)
 
 pub blend-spec : {M : Type 1} → statement M
