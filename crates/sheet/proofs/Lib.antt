@@ -1,5 +1,7 @@
 mod Examples
 mod Floats
+pub mod LegPlaces
+pub mod Entries
 pub mod LinesAgain
 pub mod LinesCut
 pub mod LinesTurns

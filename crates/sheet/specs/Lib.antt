@@ -1,3 +1,4 @@
 pub mod Entry
+pub mod Legs
 pub mod Lines
 pub mod Many
