@@ -207,7 +207,7 @@ pub(crate) fn answer_other(s: Supervisor, call: OtherCall, numbers: &mut [u32]) 
 }
 
 // A tick, a report or a command, from the whole state.
-fn answer_over(s: Supervisor, call: FlightCall, numbers: &mut [u32]) -> LineReplied
+fn answer_flight_whole(s: Supervisor, call: FlightCall, numbers: &mut [u32]) -> LineReplied
     requires { ⌜ length (now numbers) ≡ mostFields ⌝ }
     ensures { λ r. ⌜ Replied (stepOf s (flightAsks call)) (r .supervisor) (now (numbers .exit)) (r .count) ⌝ }
 {
@@ -238,7 +238,7 @@ fn answer_kind(s: Supervisor, kind: Kind, numbers: &mut [u32]) -> LineReplied
     ensures { λ r. ⌜ Replied (answeredBy s (kindAsks (now (numbers .entry)) kind)) (r .supervisor) (now (numbers .exit)) (r .count) ⌝ }
 {
     match kind {
-        Kind::Flight(call) => answer_over(s, call, numbers),
+        Kind::Flight(call) => answer_flight_whole(s, call, numbers),
         Kind::Other(call) => answer_other(s, call, numbers),
     }
 }

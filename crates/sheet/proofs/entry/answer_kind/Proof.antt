@@ -9,8 +9,8 @@ use Rattle.sheet.proofs.entry.answer_kind.Tie as tie
 enum-known-kind : tie.Need-enum-known-kind
 enum-known-kind c = search needs
 
-answer-over-requires : tie.Need-answer-over-requires
-answer-over-requires c κs = search needs
+answer-flight-whole-requires : tie.Need-answer-flight-whole-requires
+answer-flight-whole-requires c κs = search needs
 
 enum-known-kind-2 : tie.Need-enum-known-kind-2
 enum-known-kind-2 c = search needs
@@ -26,7 +26,7 @@ same-length c = search needs
 returns : tie.Need-returns
 returns c =
     let a = c .before .before .before .before .before .before .before .before .args in
-    let call = c .before .before .answer-over in
+    let call = c .before .before .answer-flight-whole in
     subst (λ (k : Kind). Replied (answeredBy (a .s) (kindAsks (a .numbers .now) k)) (call .result .supervisor) (call .last .1 .1 .0) (call .result .count)) (sym (c .before .before .before .before .before .kind .given .1)) (call .ensures)
 
 same-length-2 : tie.Need-same-length-2
@@ -43,7 +43,7 @@ answer-kind-spec =
     tie.close
     (tie.spec
     enum-known-kind
-    answer-over-requires
+    answer-flight-whole-requires
     enum-known-kind-2
     answer-other-requires
     same-length

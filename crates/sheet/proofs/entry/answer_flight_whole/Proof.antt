@@ -6,8 +6,8 @@ use Rattle.requests.specs.Kinds.{flightAsks}
 use Rattle.sheet.specs.Entry.{FlightLeft}
 use Rattle.sheet.proofs.Entries.{replied-flight}
 use borrow.Author.Needs.{needs}
-use Rattle.sheet.proofs.entry.answer_over.Statement.{statement}
-use Rattle.sheet.proofs.entry.answer_over.Tie as tie
+use Rattle.sheet.proofs.entry.answer_flight_whole.Statement.{statement}
+use Rattle.sheet.proofs.entry.answer_flight_whole.Tie as tie
 
 legs-requires : tie.Need-legs-requires
 legs-requires c κs = search needs
@@ -28,5 +28,5 @@ returns c =
     subst (λ (l : Legs). FlightLeft (flightStepOf (s .flight) (s .opened) (s .«report_due») l (flightAsks (start .args .call))) (call .result) ns) (c .before .before .before .before .before .legs .ensures) (call .ensures) in
     replied-flight s (start .args .call) (call .result) ns left (omega (arith, start .pre, call .kept .1 .1 .1 .1 .1 .0))
 
-pub answer-over-spec : {M : Type 1} → statement M
-answer-over-spec = tie.close (tie.spec legs-requires answer-flight-requires same-length returns)
+pub answer-flight-whole-spec : {M : Type 1} → statement M
+answer-flight-whole-spec = tie.close (tie.spec legs-requires answer-flight-requires same-length returns)
