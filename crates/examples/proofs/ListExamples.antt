@@ -26,9 +26,9 @@ use Rattle.relay_batt.specs.Estimator.{noneOf, shownOf, newOf, resetOf, consume
 use Rattle.relay_batt.specs.Latch.{tripOf}
 use Rattle.falcon_core.specs.Calls.{shapeRefusal, sequenceRefusal, stateRefusal, refusalOf, commandedBy, startOf, startPoints, plannedOf, flightAfter, waypointsAfter, afterOf, outputOf, answerOf, refusedOf, acceptedOf, stepOf, numbersOf}
 use Rattle.falcon_failsafe.specs.Failsafe.{clearedOf, breachOf, breachGives, breachedOf, tiltedOf, runawayEnough, runawayCounted, runawayGives, runawayOf, gustyOf, windEnough, windCounted, windGives, windOf, reportedOf}
-use Rattle.falcon_guidance.specs.Geometry.{lengthOf, distanceOf}
+use Rattle.falcon_guidance.specs.Geometry.{lengthOf, distanceOf, heightOf}
 use Rattle.falcon_hold.specs.Hold.{horizSpeedOf, brakePointOf, enteredOf, restOf as holdRestOf, brakedOf, leftOf, keptOf, heldOf}
-use Rattle.falcon_flight.specs.Milestone.{heightOf, highOf, nearHomeOf, nearGroundOf, distance3Of, arrivedOf, milestoneGives, legOf, advancedOf, milestoneOf}
+use Rattle.falcon_flight.specs.Milestone.{highOf, nearHomeOf, nearGroundOf, distance3Of, arrivedOf, milestoneGives, legOf, advancedOf, milestoneOf}
 use Rattle.falcon_guidance.specs.Mission.{waypointAdmissibleOf, pointAtOf, triedOf, allAdmissibleOf, storedOf, loadedOf, loadedPointsOf, waypointAtOf, legWaypointOf, currentWaypointOf, legsOf}
 use Rattle.falcon_failsafe.specs.Preflight.{outsideGeofenceOf, geofenceSaneOf, navRowsOf, integrityRowsOf, readinessRowsOf, updatePreflightOf, escTelemetryOf}
 use Rattle.falcon_flight.specs.Setpoint.{landingOf, setpointOf, commandedOf}

@@ -28,7 +28,7 @@ use Rattle.falcon_core.specs.declared.calls.Answer.{Answer}
 use Rattle.falcon_core.specs.declared.calls.Answered.{Answered}
 use Rattle.falcon_core.specs.declared.calls.FlightAnswered.{FlightAnswered}
 use Rattle.falcon_failsafe.specs.State.{openedOf, withMode, withMission, withZones}
-use Rattle.falcon_guidance.specs.State.{origin}
+use Rattle.falcon_guidance.specs.State.{origin, pointNumbers, zoneNumbers}
 use Rattle.falcon_guidance.specs.Mission.{noPoints, triedOf, allAdmissibleOf, loadedOf, loadedPointsOf, legsOf}
 use Rattle.falcon_guidance.specs.Zones.{loadedZonesOf}
 use Rattle.falcon_failsafe.specs.Failsafe.{reportedOf}
@@ -51,8 +51,8 @@ pub data Request : Type 0 where
 
 -- 4: "lent points not 3 each, zones not 4 each"
 abbrev pub miscountedPlan : Planning → Bool
-miscountedPlan (points l) = not (eqb (length l % 3) 0)
-miscountedPlan (zones l) = not (eqb (length l % 4) 0)
+miscountedPlan (points l) = not (eqb (length l % pointNumbers) 0)
+miscountedPlan (zones l) = not (eqb (length l % zoneNumbers) 0)
 
 abbrev pub miscounted : Request → Bool
 miscounted (opens o) = false

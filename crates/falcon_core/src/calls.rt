@@ -14,7 +14,9 @@ use falcon_guidance::mission::loaded_points;
 use falcon_guidance::mission::no_points;
 use falcon_guidance::mission::tried_admissible;
 use falcon_guidance::state::Legs;
+use falcon_guidance::state::Point;
 use falcon_guidance::state::Tick;
+use falcon_guidance::state::Zone;
 use falcon_guidance::zones::loaded_zones;
 use relay_fsm::Event;
 use relay_fsm::Gates;
@@ -380,7 +382,7 @@ impl Supervisor {
         ensures answered { λ r. ⌜ r ≡ stepOf self (plans (points (now (lent .entry)))) ⌝ }
         ensures unchanged { λ _. ⌜ now (lent .exit) ≡ now (lent .entry) ⌝ }
     {
-        if lent.len() % 3 != 0 {
+        if lent.len() % Point::NUMBERS != 0 {
             return refused(self, Answer::WRONG_COUNT);
         }
         let refusal = sequence_refusal(self.opened, self.report_due, false);
@@ -406,7 +408,7 @@ impl Supervisor {
         ensures answered { λ r. ⌜ r ≡ stepOf self (plans (zones (now (lent .entry)))) ⌝ }
         ensures unchanged { λ _. ⌜ now (lent .exit) ≡ now (lent .entry) ⌝ }
     {
-        if lent.len() % 4 != 0 {
+        if lent.len() % Zone::NUMBERS != 0 {
             return refused(self, Answer::WRONG_COUNT);
         }
         let refusal = sequence_refusal(self.opened, self.report_due, false);

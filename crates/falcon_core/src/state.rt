@@ -9,7 +9,7 @@ use falcon_guidance::state::Point;
 // The supervisor: the flight, the waypoints, whether there was an opening, and whether a report is due. Unused places hold the origin.
 pub struct Supervisor {
     pub flight: FlightSupervisor,
-    pub waypoints: [Point; 16],
+    pub waypoints: [Point; Point::MAX_WAYPOINTS],
     pub opened: bool,
     pub report_due: bool,
 }
