@@ -17,7 +17,7 @@ use Rattle.requests.specs.declared.kinds.Kind.{Kind}
 use Rattle.requests.specs.declared.kinds.Kind.the-variants.{Refused, Opens, Ticks, Reports, Commands, Points, Zones}
 use Rattle.requests.specs.Kinds.{Asked, refuses, asks, numberAt, requestOf, listLine, listFloats, Says}
 use Rattle.falcon_core.specs.Refusals.{notALine}
-use Rattle.requests.specs.Line.{askedBy, limitFields, mostFields, readingLine}
+use Rattle.requests.specs.Parse.{askedBy, limitFields, mostFields, readingLine}
 
 -- ---- the limit of a line
 

@@ -5,7 +5,7 @@ ghost use lib.ListN.{length};
 ghost use Rattle.requests.specs.Kinds.{floatAt, isFlag, flagAt, pointFrom, openingFrom, openingLine, readingFrom, batteryOk, tickFrom, tickOk, tickLine};
 ghost use Rattle.requests.specs.Kinds.{reportLine, commandLine, pointsLine, zonesLine, requestOf, Says};
 use falcon_core::calls::Answer;
-use falcon_failsafe::state::Opening;
+use falcon_failsafe::flight::Opening;
 use falcon_guidance::state::Point;
 use falcon_guidance::state::Tick;
 use relay_batt::Reading;

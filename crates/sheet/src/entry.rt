@@ -9,7 +9,7 @@ ghost use Rattle.falcon_core.specs.Calls.{numbersOf, plans, points, zones, step
 ghost use Rattle.columns.specs.Field.{inRange};
 ghost use Rattle.columns.specs.Line.{writtenOver};
 ghost use Rattle.requests.specs.Kinds.{answeredBy, numberAt, listLine, listFloats, kindAsks, Listed};
-ghost use Rattle.requests.specs.Line.{mostFields, askedLine};
+ghost use Rattle.requests.specs.Parse.{mostFields, askedLine};
 ghost use Rattle.requests.specs.ByLine.{needFields, needOf, lineStep, bufferAfter};
 ghost use Rattle.sheet.specs.Entry.{lineAnswered, lineReplied};
 ghost use Rattle.sheet.specs.Many.{replyLine};
@@ -19,11 +19,11 @@ use columns::field::write_numbers;
 use falcon_core::calls::Answer;
 use falcon_core::calls::Answered;
 use falcon_core::calls::refused;
-use falcon_core::state::Supervisor;
+use falcon_core::supervisor::Supervisor;
 use relay_math::from_bits;
 use requests::kinds::Kind;
-use requests::line::MOST_FIELDS;
-use requests::line::asked;
+use requests::parse::MOST_FIELDS;
+use requests::parse::asked;
 
 // The bytes of an answer.
 pub const ANSWER: usize = FIELD * Answer::FIELDS;

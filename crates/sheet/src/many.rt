@@ -4,10 +4,10 @@ ghost use Prim.Native.Nat.{_+_, _-_, _≤_};
 ghost use mathlib.Core.Path.{_≡_};
 ghost use mathlib.Core.List.{_++_, _∷_, []};
 ghost use lib.ListN.{length, take, drop};
-ghost use Rattle.falcon_core.specs.State.{unopened};
+ghost use Rattle.falcon_core.specs.Supervisor.{unopened};
 ghost use Rattle.columns.specs.Field.{put};
 ghost use Rattle.requests.specs.Kinds.{answeredBy};
-ghost use Rattle.requests.specs.Line.{mostFields, askedLine};
+ghost use Rattle.requests.specs.Parse.{mostFields, askedLine};
 ghost use Rattle.requests.specs.ByLine.{needOf};
 ghost use Rattle.sheet.specs.Entry.{lineReplied};
 ghost use Rattle.sheet.specs.Lines.{newline, whole, lastLine, linesOf};
@@ -16,8 +16,8 @@ use crate::entry::LineReplied;
 use crate::entry::answer_full;
 use crate::entry::lacks_room;
 use crate::lines::find_newline;
-use falcon_core::state::Supervisor;
-use requests::line::MOST_FIELDS;
+use falcon_core::supervisor::Supervisor;
+use requests::parse::MOST_FIELDS;
 
 // What was answered: the state after it, the bytes read and written, and the lines.
 pub struct Progress {

@@ -2,7 +2,7 @@
 use mathlib.Core.Path.{_≡_, refl, ap, _∙_}
 use Rattle.falcon_core.specs.declared.calls.Answered.{Answered}
 use Rattle.requests.specs.Kinds.{answeredBy}
-use Rattle.requests.specs.Line.{askedLine}
+use Rattle.requests.specs.Parse.{askedLine}
 use Rattle.requests.proofs.Buffer.{full-reply}
 use Rattle.sheet.specs.Entry.{lineReplied}
 use Rattle.sheet.specs.Many.{replyLine}

@@ -2,8 +2,8 @@ use Prim.Native.Nat.{ℕ, _+_, _-_, _≤_, _<_}
 use native.Mathlib.Omega.{arith}
 use mathlib.Core.Path.{_≡_, refl, sym, ap, _∙_, subst}
 use lib.ListN.{length, take, drop}
-use Rattle.falcon_core.specs.declared.state.Supervisor.{Supervisor}
-use Rattle.requests.specs.Line.{mostFields}
+use Rattle.falcon_core.specs.declared.supervisor.Supervisor.{Supervisor}
+use Rattle.requests.specs.Parse.{mostFields}
 use Rattle.requests.specs.ByLine.{needOf}
 use Rattle.sheet.specs.declared.entry.LineReplied.{LineReplied}
 use Rattle.sheet.specs.Lines.{whole, lineEnd}
