@@ -28,7 +28,7 @@ use Rattle.falcon_failsafe.specs.Flight.{openedOf}
 use Rattle.falcon_failsafe.specs.Failsafe.{reportedOf}
 use Rattle.falcon_core.specs.Calls.{Request, opens, ticks, reports, commands, plans, points, zones, miscounted, masksTooLarge, isOpening, isReport}
 use Rattle.falcon_core.specs.Refusals.{wrongCount, outOfRange, inadmissible}
-use Rattle.falcon_core.specs.Calls.{commandedBy, dueAfter, shapeRefusal, sequenceRefusal, stateRefusal, refusalOf, legsIn, startOf, startPoints, plannedOf, flightAfter, waypointsAfter, outputOf, afterOf, refusedOf, acceptedOf, stepOf}
+use Rattle.falcon_core.specs.Calls.{commandedBy, dueAfter, shapeRefusal, sequenceRefusal, stateRefusal, refusalOf, legsIn, startOf, startPoints, plannedOf, flightAfter, waypointsAfter, outputOf, afterOf, refusedOf, acceptedOf, stepOf, withFlight}
 
 -- a refusal that fits is answered and keeps the state
 pub step-refused : (s : Supervisor) (r : Request) (n : ℕ) → refusalOf s r ≡ suc n → stepOf s r ≡ refusedOf s (suc n)
@@ -129,7 +129,7 @@ pub points-accepted :
     length l % pointNumbers ≡ 0 →
     sequenceRefusal (s .opened) (s .«report_due») false ≡ 0 →
     not ok ≡ false →
-    acceptedOf (record { flight = withMission (s .flight) m; waypoints = ps; opened = s .opened; «report_due» = s .«report_due» }) Nothing ≡ stepOf s (plans (points l))
+    acceptedOf (withFlight s (withMission (s .flight) m) ps (s .«report_due»)) Nothing ≡ stepOf s (plans (points l))
 unfolding refusalOf stateRefusal afterOf flightAfter waypointsAfter plannedOf outputOf
 points-accepted s l m ps ok em ep eo c q b =
     let a : allAdmissibleOf (s .flight .config) l (triedOf l) ≡ true = sym eo ∙ not-false ok b in
@@ -143,7 +143,7 @@ pub zones-accepted :
     z ≡ loadedZonesOf l →
     length l % zoneNumbers ≡ 0 →
     sequenceRefusal (s .opened) (s .«report_due») false ≡ 0 →
-    acceptedOf (record { flight = withZones (s .flight) z; waypoints = s .waypoints; opened = s .opened; «report_due» = s .«report_due» }) Nothing ≡ stepOf s (plans (zones l))
+    acceptedOf (withFlight s (withZones (s .flight) z) (s .waypoints) (s .«report_due»)) Nothing ≡ stepOf s (plans (zones l))
 unfolding refusalOf stateRefusal afterOf flightAfter waypointsAfter plannedOf outputOf
 zones-accepted s l z ez c q =
     let h : refusalOf s (plans (zones l)) ≡ 0 = rw (zones-shape l c, q) in

@@ -223,28 +223,31 @@ stepOf s r = cond (eqb (refusalOf s r) 0) (acceptedOf (afterOf s r) (outputOf (s
 
 -- ---- a tick, a report or a command: what it leaves of the flight, without the waypoints
 
-unfoldable pub keptOf : FlightSupervisor → Bool → ℕ → FlightAnswered
-keptOf f due refusal = record { flight = f; «report_due» = due; answer = answerOf f refusal Nothing }
+-- a refusal keeps the flight, and whether a report is due
+unfoldable pub flightRefusedOf : FlightSupervisor → Bool → ℕ → FlightAnswered
+flightRefusedOf f due refusal = record { flight = f; «report_due» = due; answer = answerOf f refusal Nothing }
 
-unfoldable pub movedOf : FlightSupervisor → Bool → Output → FlightAnswered
-movedOf f due out = record { flight = f; «report_due» = due; answer = answerOf f 0 out }
+-- an accepted one
+unfoldable pub flightAcceptedOf : FlightSupervisor → Bool → Output → FlightAnswered
+flightAcceptedOf f due out = record { flight = f; «report_due» = due; answer = answerOf f 0 out }
 
 -- reports and commands read no waypoint
 abbrev pub noLegs : Legs
 noLegs = record { here = origin; next = origin }
 
+-- the flight, whether a report is due, and the answer after it
 unfoldable pub flightStepOf : FlightSupervisor → Bool → Bool → Legs → Request → FlightAnswered
 flightStepOf f opened due l r =
-    cond (eqb (sequenceRefusal opened due (isReport r)) 0) (movedOf (flightAfter f l r) (reportDueAfter (outputOf f l r)) (outputOf f l r))
-    (keptOf f due (sequenceRefusal opened due (isReport r)))
+    cond (eqb (sequenceRefusal opened due (isReport r)) 0) (flightAcceptedOf (flightAfter f l r) (reportDueAfter (outputOf f l r)) (outputOf f l r))
+    (flightRefusedOf f due (sequenceRefusal opened due (isReport r)))
+
+-- the state with this flight and these waypoints, a report due or not, and its other parts as they were
+abbrev pub withFlight : Supervisor → FlightSupervisor → List Point → Bool → Supervisor
+withFlight s f ps due = record { flight = f; waypoints = ps; opened = s .opened; «report_due» = due }
 
 -- the answer with the state's other parts as they were
 abbrev pub besideOf : Supervisor → FlightAnswered → Answered
-besideOf s a =
-    record {
-      supervisor = record { flight = a .flight; waypoints = s .waypoints; opened = s .opened; «report_due» = a .«report_due» };
-      answer = a .answer;
-    }
+besideOf s a = record { supervisor = withFlight s (a .flight) (s .waypoints) (a .«report_due»); answer = a .answer }
 
 -- 0 or 1
 abbrev pub flag : Bool → ℕ

@@ -1,7 +1,7 @@
 // The calls by lent values. Each takes the state and gives the state after it with its answer.
 ghost use mathlib.Core.Path.{_≡_};
 ghost use Rattle.falcon_core.specs.Calls.{opens, ticks, reports, commands, plans, points, zones, sequenceRefusal, allowedOf, commandedBy, dueAfter, answerOf, refusedOf, acceptedOf};
-ghost use Rattle.falcon_core.specs.Calls.{stepOf, keptOf, movedOf, noLegs, flightStepOf, flag, numbersOf};
+ghost use Rattle.falcon_core.specs.Calls.{stepOf, flightRefusedOf, flightAcceptedOf, noLegs, flightStepOf, flag, numbersOf};
 use crate::supervisor::Supervisor;
 use falcon_failsafe::failsafe::reported;
 use falcon_failsafe::flight::FlightSupervisor;
@@ -220,8 +220,8 @@ fn sequence_refusal(opened: bool, due: bool, report: bool) -> u32
 }
 
 // A refusal keeps the flight, and whether a report is due.
-fn kept(f: FlightSupervisor, due: bool, refusal: u32) -> FlightAnswered
-    ensures { λ r. ⌜ r ≡ keptOf f due refusal ⌝ }
+fn flight_refused(f: FlightSupervisor, due: bool, refusal: u32) -> FlightAnswered
+    ensures { λ r. ⌜ r ≡ flightRefusedOf f due refusal ⌝ }
 {
     let a = answer_of(f, refusal, Output::Nothing);
     FlightAnswered {
@@ -231,8 +231,9 @@ fn kept(f: FlightSupervisor, due: bool, refusal: u32) -> FlightAnswered
     }
 }
 
-fn moved(f: FlightSupervisor, due: bool, output: Output) -> FlightAnswered
-    ensures { λ r. ⌜ r ≡ movedOf f due output ⌝ }
+// An accepted tick, report or command.
+fn flight_accepted(f: FlightSupervisor, due: bool, output: Output) -> FlightAnswered
+    ensures { λ r. ⌜ r ≡ flightAcceptedOf f due output ⌝ }
 {
     let a = answer_of(f, Answer::ACCEPTED, output);
     FlightAnswered {
@@ -254,12 +255,12 @@ pub fn flight_tick(
 {
     let refusal = sequence_refusal(opened, due, false);
     if refusal != Answer::ACCEPTED {
-        return kept(f, due, refusal);
+        return flight_refused(f, due, refusal);
     }
     let ticked = tick(f, legs, t);
     let flight = ticked.flight;
     let answer = ticked.answer;
-    moved(flight, due_after(answer), Output::Ticks(answer))
+    flight_accepted(flight, due_after(answer), Output::Ticks(answer))
 }
 
 // Whether a motor failed while the core ran the latest tick, from the flight.
@@ -268,9 +269,9 @@ pub fn flight_report(f: FlightSupervisor, opened: bool, due: bool, failed: bool)
 {
     let refusal = sequence_refusal(opened, due, true);
     if refusal != Answer::ACCEPTED {
-        return kept(f, due, refusal);
+        return flight_refused(f, due, refusal);
     }
-    moved(reported(f, failed), false, Output::Nothing)
+    flight_accepted(reported(f, failed), false, Output::Nothing)
 }
 
 // A command of the pilot, from the flight.
@@ -286,9 +287,9 @@ pub fn flight_command(
 {
     let refusal = sequence_refusal(opened, due, false);
     if refusal != Answer::ACCEPTED {
-        return kept(f, due, refusal);
+        return flight_refused(f, due, refusal);
     }
-    moved(
+    flight_accepted(
         commanded(f, ev, level, throttle_low),
         false,
         Output::Nothing,
