@@ -1,7 +1,7 @@
 -- A tick, a report and a command by the flight alone: the state's call leaves the waypoints, and the rest is the flight's.
 use Prim.Native.Nat.{ℕ, zero, suc}
 use mathlib.Core.Bool.{Bool, true, false}
-use mathlib.Core.Path.{_≡_, refl, sym}
+use mathlib.Core.Path.{_≡_, refl, sym, ap, _∙_}
 use lib.Dec.{eqb·suc-zero}
 use Rattle.falcon_guidance.specs.declared.state.Legs.{Legs}
 use Rattle.falcon_guidance.specs.declared.state.Tick.{Tick}
@@ -68,8 +68,8 @@ module _ (s : Supervisor) where
   tick-by t (suc n) e = rw (step-refused s (ticks t) n (rw e), e, eqb·suc-zero n)
 
   -- a tick leaves the waypoints, and of the rest what the flight's tick does
-  pub tick-beside : (t : Tick) → besideOf s (parts (legsIn s) (ticks t)) ≡ stepOf s (ticks t)
-  tick-beside t = tick-by t (sequence false) refl
+  pub tick-beside : (t : Tick) (l : Legs) (a : FlightAnswered) → l ≡ legsIn s → a ≡ parts l (ticks t) → besideOf s a ≡ stepOf s (ticks t)
+  tick-beside t l a el e = ap (besideOf s) (e ∙ ap (λ (k : Legs). parts k (ticks t)) el) ∙ tick-by t (sequence false) refl
 
   report-by : (failed : Bool) (n : ℕ) → sequence true ≡ n → besideOf s (parts noLegs (reports failed)) ≡ stepOf s (reports failed)
   unfolding flightStepOf refusalOf shapeRefusal stateRefusal flightRefusedOf flightAcceptedOf refusedOf acceptedOf afterOf flightAfter waypointsAfter outputOf
@@ -77,8 +77,8 @@ module _ (s : Supervisor) where
   report-by failed (suc n) e = rw (step-refused s (reports failed) n (rw e), e, eqb·suc-zero n)
 
   -- a report
-  pub report-beside : (failed : Bool) → besideOf s (parts noLegs (reports failed)) ≡ stepOf s (reports failed)
-  report-beside failed = report-by failed (sequence true) refl
+  pub report-beside : (failed : Bool) (a : FlightAnswered) → a ≡ parts noLegs (reports failed) → besideOf s a ≡ stepOf s (reports failed)
+  report-beside failed a e = ap (besideOf s) e ∙ report-by failed (sequence true) refl
 
   command-by : (ev : Event) (level low : Bool) (n : ℕ) → sequence false ≡ n → besideOf s (parts noLegs (commands ev level low)) ≡ stepOf s (commands ev level low)
   unfolding flightStepOf refusalOf shapeRefusal stateRefusal flightRefusedOf flightAcceptedOf refusedOf acceptedOf afterOf flightAfter waypointsAfter outputOf
@@ -86,5 +86,8 @@ module _ (s : Supervisor) where
   command-by ev level low (suc n) e = rw (step-refused s (commands ev level low) n (rw e), e, eqb·suc-zero n)
 
   -- a command
-  pub command-beside : (ev : Event) (level low : Bool) → besideOf s (parts noLegs (commands ev level low)) ≡ stepOf s (commands ev level low)
-  command-beside ev level low = command-by ev level low (sequence false) refl
+  pub command-beside :
+      (ev : Event) (level low : Bool) (a : FlightAnswered) →
+      a ≡ parts noLegs (commands ev level low) →
+      besideOf s a ≡ stepOf s (commands ev level low)
+  command-beside ev level low a e = ap (besideOf s) e ∙ command-by ev level low (sequence false) refl

@@ -1,7 +1,7 @@
 // The calls by lent values. Each takes the state and gives the state after it with its answer.
 ghost use mathlib.Core.Path.{_≡_};
 ghost use Rattle.falcon_core.specs.Calls.{opens, ticks, reports, commands, plans, points, zones, sequenceRefusal, allowedOf, commandedBy, dueAfter, answerOf, refusedOf, acceptedOf};
-ghost use Rattle.falcon_core.specs.Calls.{stepOf, flightRefusedOf, flightAcceptedOf, noLegs, flightStepOf, flag, numbersOf};
+ghost use Rattle.falcon_core.specs.Calls.{stepOf, flightRefusedOf, flightAcceptedOf, noLegs, flightStepOf, besideOf, flag, numbersOf};
 use crate::supervisor::Supervisor;
 use falcon_failsafe::failsafe::reported;
 use falcon_failsafe::flight::FlightSupervisor;
@@ -296,6 +296,21 @@ pub fn flight_command(
     )
 }
 
+// What a tick, a report or a command leaves, with the state's other parts as they were.
+fn beside(s: Supervisor, told: FlightAnswered) -> Answered
+    ensures { λ r. ⌜ r ≡ besideOf s told ⌝ }
+{
+    let flight = told.flight;
+    let answer = told.answer;
+    let mut next = s;
+    next.flight = flight;
+    next.report_due = told.report_due;
+    Answered {
+        supervisor: next,
+        answer,
+    }
+}
+
 impl Supervisor {
     // Opens the supervisor anew; taken at any time.
     pub fn opening(self, o: Opening) -> Answered
@@ -321,22 +336,14 @@ impl Supervisor {
         let config = self.flight.config;
         let mission = self.flight.mission;
         let waypoints = self.waypoints;
-        let ticked = flight_tick(
+        let told = flight_tick(
             self.flight,
             self.opened,
             self.report_due,
             legs(config, waypoints, mission),
             t,
         );
-        let flight = ticked.flight;
-        let answer = ticked.answer;
-        let mut next = self;
-        next.flight = flight;
-        next.report_due = ticked.report_due;
-        Answered {
-            supervisor: next,
-            answer,
-        }
+        beside(self, told)
     }
 
     // Whether a motor failed while the core ran the latest tick.
@@ -344,15 +351,7 @@ impl Supervisor {
         ensures { λ r. ⌜ r ≡ stepOf self (reports failed) ⌝ }
     {
         let told = flight_report(self.flight, self.opened, self.report_due, failed);
-        let flight = told.flight;
-        let answer = told.answer;
-        let mut next = self;
-        next.flight = flight;
-        next.report_due = told.report_due;
-        Answered {
-            supervisor: next,
-            answer,
-        }
+        beside(self, told)
     }
 
     // A command of the pilot.
@@ -367,15 +366,7 @@ impl Supervisor {
             level,
             throttle_low,
         );
-        let flight = told.flight;
-        let answer = told.answer;
-        let mut next = self;
-        next.flight = flight;
-        next.report_due = told.report_due;
-        Answered {
-            supervisor: next,
-            answer,
-        }
+        beside(self, told)
     }
 
     // A new list of waypoints, three numbers each; one bad point refuses the list and the old one stays.

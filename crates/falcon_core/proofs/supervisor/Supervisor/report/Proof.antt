@@ -1,6 +1,4 @@
-use mathlib.Core.Path.{ap, _∙_}
-use Rattle.falcon_core.specs.declared.calls.FlightAnswered.{FlightAnswered}
-use Rattle.falcon_core.specs.Calls.{besideOf}
+use mathlib.Core.Path.{_∙_}
 use Rattle.falcon_core.proofs.FlightCalls.{report-beside}
 use borrow.Author.Needs.{needs}
 use Rattle.falcon_core.proofs.supervisor.Supervisor.report.Statement.{statement}
@@ -9,10 +7,11 @@ use Rattle.falcon_core.proofs.supervisor.Supervisor.report.Tie as tie
 flight-report-requires : tie.Need-flight-report-requires
 flight-report-requires c κs = search needs
 
+beside-requires : tie.Need-beside-requires
+beside-requires c κs = search needs
+
 returns : tie.Need-returns
-returns c =
-    ap (λ (a : FlightAnswered). besideOf (c .before .before .before .args .self) a) (c .before .before .flight-report .ensures)
-    ∙ report-beside (c .before .before .before .args .self) (c .before .before .before .args .failed)
+returns c = c .beside .ensures ∙ report-beside (c .before .before .args .self) (c .before .before .args .failed) _ (c .before .flight-report .ensures)
 
 pub report-spec : {M : Type 1} → statement M
-report-spec = tie.close (tie.spec flight-report-requires returns)
+report-spec = tie.close (tie.spec flight-report-requires beside-requires returns)
