@@ -8,7 +8,7 @@ use falcon_failsafe::flight::FlightSupervisor;
 use falcon_failsafe::flight::Opening;
 use falcon_flight::tick::TickAnswer;
 use falcon_flight::tick::tick;
-use falcon_guidance::mission::legs;
+use falcon_guidance::legs::legs;
 use falcon_guidance::mission::loaded;
 use falcon_guidance::mission::loaded_points;
 use falcon_guidance::mission::no_points;

@@ -1,2 +1,3 @@
 pub mod Waypoints
 pub mod KeptZones
+pub mod LegPlaces

@@ -3,7 +3,7 @@ use falcon_core::supervisor::Supervisor;
 use falcon_failsafe::flight::Opening;
 use falcon_flight::tick::TickAnswer;
 use falcon_flight::tick::tick;
-use falcon_guidance::mission::legs;
+use falcon_guidance::legs::legs;
 use falcon_guidance::state::Point;
 use falcon_guidance::state::Tick;
 use libc::STDOUT_FILENO;
