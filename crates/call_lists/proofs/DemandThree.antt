@@ -17,7 +17,7 @@ use denote.Floats.{is-true}
 use Rattle.relay_batt.specs.declared.battery.Battery.{Battery}
 use Rattle.relay_batt.proofs.Stays.{critical-stays, critical-shown}
 use Rattle.falcon_guidance.specs.declared.state.Tick.{Tick}
-use Rattle.falcon_core.specs.declared.state.Supervisor.{Supervisor}
+use Rattle.falcon_core.specs.declared.supervisor.Supervisor.{Supervisor}
 use Rattle.falcon_core.specs.declared.calls.Answered.{Answered}
 use Rattle.falcon_failsafe.specs.Failsafe.{tiltedOf, runawayEnough}
 use Rattle.falcon_flight.specs.Milestone.{heightOf, nearGroundOf}

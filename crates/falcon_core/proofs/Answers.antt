@@ -11,19 +11,19 @@ use lib.Ieee.{Float}
 use Rattle.falcon_guidance.specs.declared.state.Point.{Point}
 use Rattle.falcon_guidance.specs.declared.state.Legs.{Legs}
 use Rattle.falcon_guidance.specs.declared.state.Tick.{Tick}
-use Rattle.falcon_core.specs.declared.state.Supervisor.{Supervisor}
+use Rattle.falcon_core.specs.declared.supervisor.Supervisor.{Supervisor}
 use Rattle.falcon_flight.specs.declared.tick.Ticked.{Ticked}
 use Rattle.falcon_core.specs.declared.calls.Output.the-variants.{Nothing, Ticks}
 use Rattle.falcon_guidance.specs.declared.state.Mission.{Mission}
-use Rattle.falcon_failsafe.specs.State.{withMission, withZones}
+use Rattle.falcon_failsafe.specs.Flight.{withMission, withZones}
 use Rattle.falcon_guidance.specs.Mission.{noPoints, triedOf, allAdmissibleOf, loadedOf, loadedPointsOf}
 use Rattle.falcon_guidance.specs.declared.state.Zones.{Zones}
 use Rattle.falcon_guidance.specs.Zones.{loadedZonesOf}
 use Rattle.falcon_flight.specs.Tick.{tickOf}
 use Rattle.relay_fsm.specs.declared.Event.{Event}
-use Rattle.falcon_failsafe.specs.declared.state.FlightSupervisor.{FlightSupervisor}
-use Rattle.falcon_failsafe.specs.declared.state.Opening.{Opening}
-use Rattle.falcon_failsafe.specs.State.{openedOf}
+use Rattle.falcon_failsafe.specs.declared.flight.FlightSupervisor.{FlightSupervisor}
+use Rattle.falcon_failsafe.specs.declared.flight.Opening.{Opening}
+use Rattle.falcon_failsafe.specs.Flight.{openedOf}
 use Rattle.falcon_failsafe.specs.Failsafe.{reportedOf}
 use Rattle.falcon_core.specs.Calls.{Request, opens, ticks, reports, commands, plans, points, zones, miscounted, masksTooLarge, isOpening, isReport}
 use Rattle.falcon_core.specs.Refusals.{wrongCount, outOfRange, inadmissible}

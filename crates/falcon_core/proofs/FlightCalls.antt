@@ -6,11 +6,11 @@ use lib.Dec.{eqb·suc-zero}
 use Rattle.falcon_guidance.specs.declared.state.Legs.{Legs}
 use Rattle.falcon_guidance.specs.declared.state.Tick.{Tick}
 use Rattle.relay_fsm.specs.declared.Event.{Event}
-use Rattle.falcon_failsafe.specs.declared.state.FlightSupervisor.{FlightSupervisor}
+use Rattle.falcon_failsafe.specs.declared.flight.FlightSupervisor.{FlightSupervisor}
 use Rattle.falcon_failsafe.specs.Failsafe.{reportedOf}
 use Rattle.falcon_flight.specs.declared.tick.Ticked.{Ticked}
 use Rattle.falcon_flight.specs.Tick.{tickOf}
-use Rattle.falcon_core.specs.declared.state.Supervisor.{Supervisor}
+use Rattle.falcon_core.specs.declared.supervisor.Supervisor.{Supervisor}
 use Rattle.falcon_core.specs.declared.calls.FlightAnswered.{FlightAnswered}
 use Rattle.falcon_core.specs.declared.calls.Output.the-variants.{Nothing, Ticks}
 use Rattle.falcon_core.specs.Calls.{Request, ticks, reports, commands, isReport, dueAfter, commandedBy, shapeRefusal, sequenceRefusal, stateRefusal, refusalOf, legsIn, flightAfter, waypointsAfter, outputOf, afterOf}

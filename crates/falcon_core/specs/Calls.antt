@@ -12,14 +12,14 @@ use Rattle.relay_preflight.specs.declared.TableVerdict.{TableVerdict}
 use Rattle.relay_preflight.specs.declared.TableVerdict.the-variants.{Allowed, Blocked}
 use Rattle.relay_preflight.specs.Table.{outstandingOf, maskLimit}
 use Rattle.relay_preflight.specs.Verdict.{firstBlockerOf, blockerNumber}
-use Rattle.falcon_failsafe.specs.declared.state.Opening.{Opening}
+use Rattle.falcon_failsafe.specs.declared.flight.Opening.{Opening}
 use Rattle.falcon_guidance.specs.declared.state.Tick.{Tick}
 use Rattle.falcon_guidance.specs.declared.state.Point.{Point}
 use Rattle.falcon_guidance.specs.declared.state.Mission.{Mission}
 use Rattle.falcon_guidance.specs.declared.state.Legs.{Legs}
 use Rattle.falcon_guidance.specs.declared.state.Zones.{Zones}
-use Rattle.falcon_failsafe.specs.declared.state.FlightSupervisor.{FlightSupervisor}
-use Rattle.falcon_core.specs.declared.state.Supervisor.{Supervisor}
+use Rattle.falcon_failsafe.specs.declared.flight.FlightSupervisor.{FlightSupervisor}
+use Rattle.falcon_core.specs.declared.supervisor.Supervisor.{Supervisor}
 use Rattle.falcon_flight.specs.declared.tick.TickAnswer.{TickAnswer}
 use Rattle.falcon_flight.specs.declared.tick.TickAnswer.the-variants.{MotorsOff, Setpoint}
 use Rattle.falcon_core.specs.declared.calls.Output.{Output}
@@ -27,7 +27,7 @@ use Rattle.falcon_core.specs.declared.calls.Output.the-variants.{Nothing
 use Rattle.falcon_core.specs.declared.calls.Answer.{Answer}
 use Rattle.falcon_core.specs.declared.calls.Answered.{Answered}
 use Rattle.falcon_core.specs.declared.calls.FlightAnswered.{FlightAnswered}
-use Rattle.falcon_failsafe.specs.State.{openedOf, withMode, withMission, withZones}
+use Rattle.falcon_failsafe.specs.Flight.{openedOf, withMode, withMission, withZones}
 use Rattle.falcon_guidance.specs.State.{origin}
 use Rattle.falcon_guidance.specs.Mission.{noPoints, triedOf, allAdmissibleOf, loadedOf, loadedPointsOf, legsOf}
 use Rattle.falcon_guidance.specs.Zones.{loadedZonesOf}

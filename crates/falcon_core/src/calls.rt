@@ -2,10 +2,10 @@
 ghost use mathlib.Core.Path.{_≡_};
 ghost use Rattle.falcon_core.specs.Calls.{opens, ticks, reports, commands, plans, points, zones, sequenceRefusal, allowedOf, commandedBy, dueAfter, answerOf, refusedOf, acceptedOf};
 ghost use Rattle.falcon_core.specs.Calls.{stepOf, keptOf, movedOf, noLegs, flightStepOf, flag, numbersOf};
-use crate::state::Supervisor;
+use crate::supervisor::Supervisor;
 use falcon_failsafe::failsafe::reported;
-use falcon_failsafe::state::FlightSupervisor;
-use falcon_failsafe::state::Opening;
+use falcon_failsafe::flight::FlightSupervisor;
+use falcon_failsafe::flight::Opening;
 use falcon_flight::tick::TickAnswer;
 use falcon_flight::tick::tick;
 use falcon_guidance::mission::legs;

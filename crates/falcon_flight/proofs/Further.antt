@@ -16,8 +16,8 @@ use Rattle.falcon_guidance.specs.declared.state.Legs.{Legs}
 use Rattle.falcon_guidance.specs.declared.state.Tick.{Tick}
 use Rattle.falcon_guidance.specs.Mission.{legsOf}
 use Rattle.falcon_guidance.proofs.OpenLegs.{open-legs}
-use Rattle.falcon_failsafe.specs.declared.state.FlightSupervisor.{FlightSupervisor}
-use Rattle.falcon_failsafe.specs.State.{withMode, withMission}
+use Rattle.falcon_failsafe.specs.declared.flight.FlightSupervisor.{FlightSupervisor}
+use Rattle.falcon_failsafe.specs.Flight.{withMode, withMission}
 use Rattle.falcon_failsafe.specs.Failsafe.{modeAfter, clearedOf, breachOf, breachGives, breachedOf, runawayCounted, runawayGives, runawayOf, windCounted, windGives, windOf}
 use Rattle.falcon_flight.specs.declared.tick.Ticked.{Ticked}
 use Rattle.falcon_flight.specs.Milestone.{highOf, nearHomeOf, nearGroundOf, arrivedOf, milestoneEvent, milestoneGives, legOf, milestoneOf}

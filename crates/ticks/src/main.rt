@@ -1,6 +1,6 @@
 // The tick with no text: a day flown again and again, and the sum of its answers. `harness/bench tick` times it beside the Rust's `step`.
-use falcon_core::state::Supervisor;
-use falcon_failsafe::state::Opening;
+use falcon_core::supervisor::Supervisor;
+use falcon_failsafe::flight::Opening;
 use falcon_flight::tick::TickAnswer;
 use falcon_flight::tick::tick;
 use falcon_guidance::mission::legs;

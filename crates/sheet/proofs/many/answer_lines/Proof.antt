@@ -13,7 +13,7 @@ use Rattle.falcon_core.specs.Calls.{answerFields, flightStepOf}
 use Rattle.columns.specs.Field.{put}
 use Rattle.requests.specs.declared.kinds.Kind.{Kind}
 use Rattle.requests.specs.Kinds.{answeredBy, flightAsks, kindAsks, KindListed}
-use Rattle.requests.specs.Line.{mostFields, askedLine}
+use Rattle.requests.specs.Parse.{mostFields, askedLine}
 use Rattle.requests.specs.ByLine.{needOf}
 use Rattle.sheet.specs.Entry.{Replied, FlightLeft}
 use Rattle.sheet.specs.Lines.{newline, whole}
