@@ -1,7 +1,7 @@
 // A line: fields, one after the other.
 
 ghost use mathlib.Core.Path.{_≡_};
-ghost use Prim.Native.Nat.{_≤_};
+ghost use Prim.Native.Nat.{min};
 ghost use lib.ListN.{length};
 ghost use Rattle.columns.specs.Line.{readWithin, readingOf, Counted};
 use crate::field::FIELD;
@@ -17,10 +17,9 @@ pub enum LineRead {
     Broken,
 }
 
-// The numbers of a line that may have so many fields.
+// The numbers of a line that may have so many fields, or as many as the array has places where these are fewer.
 pub fn read_line(line: &[u8], limit: usize, numbers: &mut [u32]) -> LineRead
-    requires { ⌜ limit ≤ length (now numbers) ⌝ }
-    ensures { λ r. ⌜ readingOf r (now (numbers .exit)) ≡ readWithin limit (now (line .entry)) ⌝ }
+    ensures { λ r. ⌜ readingOf r (now (numbers .exit)) ≡ readWithin (min limit (length (now (numbers .entry)))) (now (line .entry)) ⌝ }
     ensures { λ r. ⌜ Counted r (now (numbers .exit)) ⌝ }
 {
     let n = line.len();
@@ -32,6 +31,9 @@ pub fn read_line(line: &[u8], limit: usize, numbers: &mut [u32]) -> LineRead
     }
     let count = n / FIELD;
     if limit < count {
+        return LineRead::Broken;
+    }
+    if numbers.len() < count {
         return LineRead::Broken;
     }
     let mut at = 0;

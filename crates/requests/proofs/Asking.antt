@@ -1,5 +1,6 @@
 -- From a line's bytes to what it asks. Assumes nothing.
-use Prim.Native.Nat.{ℕ, _+_, _*_, _≤_, _<_}
+use Prim.Native.Nat.{ℕ, _+_, _*_, _≤_, _<_, min}
+use native.Mathlib.Nat.{min-eq-left}
 use native.Mathlib.Omega.{arith}
 use mathlib.Core.Path.{_≡_, refl, sym, ap, _∙_, subst}
 use mathlib.Core.List.{List}
@@ -13,9 +14,11 @@ use Rattle.columns.specs.Field.{fieldWidth, inRange, kindOf}
 use Rattle.columns.specs.Line.{read, lineFields, readWithin, readingOf, Counted}
 use Rattle.columns.proofs.LineAgain.{within-cut, within-same, kind-cut, line-only, first-number}
 use Rattle.falcon_core.specs.Calls.{plans, points, zones}
+use Rattle.falcon_guidance.specs.State.{pointNumbers, zoneNumbers}
 use Rattle.requests.specs.declared.kinds.Kind.{Kind}
-use Rattle.requests.specs.declared.kinds.Kind.the-variants.{Refused, Opens, Ticks, Reports, Commands, Points, Zones}
-use Rattle.requests.specs.Kinds.{Asked, refuses, asks, numberAt, requestOf, listLine, listFloats, Says}
+use Rattle.requests.specs.declared.kinds.Kind.the-variants.{Flight, Other}
+use Rattle.requests.specs.declared.kinds.OtherCall.the-variants.{Refused, Opens, Points, Zones}
+use Rattle.requests.specs.Kinds.{Asked, refuses, asks, numberAt, listHead, listFields, requestOf, listLine, listFloats, Says}
 use Rattle.falcon_core.specs.Refusals.{notALine}
 use Rattle.requests.specs.Parse.{askedBy, limitFields, mostFields, readingLine}
 
@@ -50,6 +53,10 @@ read-kinded line limit v e k = ap (λ (n : ℕ). readWithin n line) (e ∙ ap li
 pub kinded-most : (limit v : ℕ) → limit ≡ limitFields (inRange v) → limit ≤ mostFields
 kinded-most limit v e = omega (arith, limit-most (inRange v))
 
+-- an array with a place for each number of any line does not limit a line
+pub read-room : (line : List ℕ) (limit room : ℕ) → (readWithin limit line ≡ readingLine line) × (limit ≤ mostFields) → mostFields ≤ room → readWithin (min limit room) line ≡ readingLine line
+read-room line limit room (e, h) k = ap (λ (n : ℕ). readWithin n line) (min-eq-left (omega arith)) ∙ e
+
 -- a line over every kind's limit says the same without the bytes behind it
 pub reading-cut : (line : List ℕ) → fieldWidth * mostFields < length line → readingLine line ≡ readingLine (take (fieldWidth * mostFields + 1) line)
 unfolding readingLine
@@ -83,24 +90,22 @@ pub counted : (r : LineRead) (a : List ℕ) (n : ℕ) → Counted r a → r ≡ 
 counted r a n h k = subst (λ (x : LineRead). Counted x a) k h
 
 -- a list among the first numbers of an array is among all of them
-module _ (width n : ℕ) (a : List ℕ) (h : 2 + width * numberAt (take n a) 1 ≤ length (take n a)) where
+module _ (width n : ℕ) (a : List ℕ) (h : listFields width (take n a) ≤ length (take n a)) where
   same-count : numberAt (take n a) 1 ≡ numberAt a 1
   same-count = getD-take n a 1 0 (omega (arith, length-take n a))
 
-  list-among : 2 + width * numberAt a 1 ≤ length a
-  list-among = subst (λ (m : ℕ). 2 + width * m ≤ length a) same-count (omega (arith, length-take n a))
+  list-among : listFields width a ≤ length a
+  list-among = subst (λ (m : ℕ). listHead + width * m ≤ length a) same-count (omega (arith, length-take n a))
 
   same-list : listLine width (take n a) ≡ listLine width a
   same-list =
-      take-take (2 + width * numberAt (take n a) 1) n a (omega (arith, length-take n a))
-      ∙ ap (λ (m : ℕ). take (2 + width * m) a) same-count
+      take-take (listFields width (take n a)) n a (omega (arith, length-take n a))
+      ∙ ap (λ (m : ℕ). take (listHead + width * m) a) same-count
 
 -- what the first numbers of an array say, all of them say
 pub says-among : (k : Kind) (a : List ℕ) (n : ℕ) (asked : Asked) → Says k (take n a) asked → Says k a asked
-says-among (Refused m) a n asked h = h
-says-among (Opens o) a n asked h = h
-says-among (Ticks t) a n asked h = h
-says-among (Reports failed) a n asked h = h
-says-among (Commands ev level low) a n asked h = h
-says-among Points a n asked (e, h) = (sym (ap (λ (l : List ℕ). asks (plans (points (listFloats l)))) (same-list 3 n a h)) ∙ e, list-among 3 n a h)
-says-among Zones a n asked (e, h) = (sym (ap (λ (l : List ℕ). asks (plans (zones (listFloats l)))) (same-list 4 n a h)) ∙ e, list-among 4 n a h)
+says-among (Flight call) a n asked h = h
+says-among (Other (Refused m)) a n asked h = h
+says-among (Other (Opens o)) a n asked h = h
+says-among (Other Points) a n asked (e, h) = (sym (ap (λ (l : List ℕ). asks (plans (points (listFloats l)))) (same-list pointNumbers n a h)) ∙ e, list-among pointNumbers n a h)
+says-among (Other Zones) a n asked (e, h) = (sym (ap (λ (l : List ℕ). asks (plans (zones (listFloats l)))) (same-list zoneNumbers n a h)) ∙ e, list-among zoneNumbers n a h)

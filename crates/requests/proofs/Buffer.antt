@@ -75,6 +75,13 @@ reply-width a =
 pub reply-fits : (s : Supervisor) (line : List ℕ) → length (replyOf (answeredBy s (askedLine line))) ≤ needOf line
 reply-fits s line = omega (arith, reply-width (answeredBy s (askedLine line)), needs-least line)
 
+-- numbers that fit are written, and what stands behind them stays
+pub written-fits : (ns out : List ℕ) → fieldWidth * length ns ≤ length out → writtenOver ns out ≡ lineOf ns ++ drop (length (lineOf ns)) out
+unfolding writtenOver
+written-fits ns out h =
+    let over : writtenOver ns out ≡ lineOf ns ++ drop (fieldWidth * length ns) out = simp (le-ltb (length out) (fieldWidth * length ns) h) in
+    over ∙ ap (λ (n : ℕ). lineOf ns ++ drop n out) (sym (length-line ns))
+
 -- ---- by the buffer's length
 
 -- under what the line needs
@@ -100,16 +107,8 @@ module _ (s : Supervisor) (line out : List ℕ) (h : needOf line ≤ length out)
       ∙ simp (le-ltb (length out) (needOf line) h)
 
   -- the answer written is the reply, and what stands behind it stays
-  pub full-reply : (a : Answered) → a ≡ answeredBy s (askedLine line)
-      → writtenOver (numbersOf (a .answer)) out ≡ replyOf (answeredBy s (askedLine line)) ++ drop (length (replyOf (answeredBy s (askedLine line)))) out
-  unfolding writtenOver replyOf
-  full-reply a e =
-      let wide : length (lineOf (replyNumbers a)) ≡ fieldWidth * length (replyNumbers a) = length-line (replyNumbers a) in
-      let room : fieldWidth * length (replyNumbers a) ≤ length out =
-      omega (arith, reply-fits s line, ap (λ (x : Answered). length (replyOf x)) e) in
-      let over : writtenOver (replyNumbers a) out ≡ lineOf (replyNumbers a) ++ drop (fieldWidth * length (replyNumbers a)) out =
-      simp (le-ltb (length out) (fieldWidth * length (replyNumbers a)) room) in
-      ap (λ (ns : List ℕ). writtenOver ns out) (reply-ten a)
-      ∙ over
-      ∙ ap (λ (n : ℕ). lineOf (replyNumbers a) ++ drop n out) (sym wide)
-      ∙ ap (λ (x : Answered). replyOf x ++ drop (length (replyOf x)) out) e
+  pub full-reply : writtenOver (replyNumbers (answeredBy s (askedLine line))) out ≡ bufferAfter s line out
+  unfolding replyOf
+  full-reply =
+      let ns : List ℕ = replyNumbers (answeredBy s (askedLine line)) in
+      written-fits ns out (omega (arith, length-line ns, reply-fits s line)) ∙ full-buffer

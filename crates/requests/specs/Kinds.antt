@@ -17,8 +17,12 @@ use Rattle.falcon_guidance.specs.declared.state.Tick.{Tick}
 use Rattle.falcon_core.specs.declared.supervisor.Supervisor.{Supervisor}
 use Rattle.falcon_core.specs.declared.calls.Answered.{Answered}
 use Rattle.requests.specs.declared.kinds.Kind.{Kind}
-use Rattle.requests.specs.declared.kinds.Kind.the-variants.{Refused, Opens, Ticks, Reports, Commands, Points, Zones}
-use Rattle.falcon_guidance.specs.State.{pointOf}
+use Rattle.requests.specs.declared.kinds.Kind.the-variants.{Flight, Other}
+use Rattle.requests.specs.declared.kinds.FlightCall.{FlightCall}
+use Rattle.requests.specs.declared.kinds.FlightCall.the-variants.{Ticks, Reports, Commands}
+use Rattle.requests.specs.declared.kinds.OtherCall.{OtherCall}
+use Rattle.requests.specs.declared.kinds.OtherCall.the-variants.{Refused, Opens, Points, Zones}
+use Rattle.falcon_guidance.specs.State.{pointOf, pointNumbers, zoneNumbers}
 use Rattle.falcon_core.specs.Calls.{Request, opens, ticks, reports, commands, plans, points, zones, refusedOf, stepOf}
 use Rattle.falcon_core.specs.Refusals.{unknownKind, wrongCount, outOfRange}
 
@@ -132,13 +136,27 @@ unfoldable pub commandLine : List ℕ → Asked
 commandLine ns =
     fielded ns commandFields (isFlag ns 2 && isFlag ns 3) (commandWith (eventAt (numberAt ns 1)) (flagAt ns 2) (flagAt ns 3))
 
+-- the kind and n, which stand before the points or zones of a line
+abbrev pub listHead : ℕ
+listHead = 2
+
+-- "n, then 3 each" or "4 each": the fields of a line of points or zones
+abbrev pub listFields : ℕ → List ℕ → ℕ
+listFields width ns = listHead + width * numberAt ns 1
+
+abbrev pub isList : ℕ → List ℕ → Bool
+isList width ns = eqb (length ns) (listFields width ns)
+
+abbrev pub listFloats : List ℕ → List Float
+listFloats ns = map (ofBits binary32) (drop listHead ns)
+
 -- "5 points: n, then 3 each."
 unfoldable pub pointsLine : List ℕ → Asked
-pointsLine ns = cond (eqb (length ns) (2 + 3 * numberAt ns 1)) (asks (plans (points (map (ofBits binary32) (drop 2 ns))))) (refuses wrongCount)
+pointsLine ns = cond (isList pointNumbers ns) (asks (plans (points (listFloats ns)))) (refuses wrongCount)
 
 -- "6 zones: n, then 4 each."
 unfoldable pub zonesLine : List ℕ → Asked
-zonesLine ns = cond (eqb (length ns) (2 + 4 * numberAt ns 1)) (asks (plans (zones (map (ofBits binary32) (drop 2 ns))))) (refuses wrongCount)
+zonesLine ns = cond (isList zoneNumbers ns) (asks (plans (zones (listFloats ns)))) (refuses wrongCount)
 
 -- "The first field is the kind"
 unfoldable pub requestOf : List ℕ → Asked
@@ -149,33 +167,37 @@ requestOf ns =
     (cond (eqb (numberAt ns 0) 4) (commandLine ns)
     (cond (eqb (numberAt ns 0) 5) (pointsLine ns) (cond (eqb (numberAt ns 0) 6) (zonesLine ns) (refuses unknownKind))))))
 
--- "n, then 3 each" or "4 each": the numbers of a line of points or zones, which are the first of these, and its floats
+-- the numbers of a line of points or zones, which are the first of these
 abbrev pub listLine : ℕ → List ℕ → List ℕ
-listLine width ns = take (2 + width * numberAt ns 1) ns
-
-abbrev pub listFloats : List ℕ → List Float
-listFloats ns = map (ofBits binary32) (drop 2 ns)
+listLine width ns = take (listFields width ns) ns
 
 -- what each case of `Kind` asks, the line's numbers being the first of these
+abbrev pub flightAsks : FlightCall → Request
+flightAsks (Ticks t) = ticks t
+flightAsks (Reports failed) = reports failed
+flightAsks (Commands ev level low) = commands ev level low
+
+abbrev pub otherAsks : List ℕ → OtherCall → Asked
+otherAsks ns (Refused n) = refuses n
+otherAsks ns (Opens o) = asks (opens o)
+otherAsks ns Points = asks (plans (points (listFloats (listLine pointNumbers ns))))
+otherAsks ns Zones = asks (plans (zones (listFloats (listLine zoneNumbers ns))))
+
 abbrev pub kindAsks : List ℕ → Kind → Asked
-kindAsks ns (Refused n) = refuses n
-kindAsks ns (Opens o) = asks (opens o)
-kindAsks ns (Ticks t) = asks (ticks t)
-kindAsks ns (Reports failed) = asks (reports failed)
-kindAsks ns (Commands ev level low) = asks (commands ev level low)
-kindAsks ns Points = asks (plans (points (listFloats (listLine 3 ns))))
-kindAsks ns Zones = asks (plans (zones (listFloats (listLine 4 ns))))
+kindAsks ns (Flight call) = asks (flightAsks call)
+kindAsks ns (Other call) = otherAsks ns call
 
 -- the points or zones of a line are among these numbers
-abbrev pub Listed : Kind → List ℕ → Type 0
+abbrev pub Listed : OtherCall → List ℕ → Type 0
 Listed (Refused n) ns = Unit
 Listed (Opens o) ns = Unit
-Listed (Ticks t) ns = Unit
-Listed (Reports failed) ns = Unit
-Listed (Commands ev level low) ns = Unit
-Listed Points ns = 2 + 3 * numberAt ns 1 ≤ length ns
-Listed Zones ns = 2 + 4 * numberAt ns 1 ≤ length ns
+Listed Points ns = listFields pointNumbers ns ≤ length ns
+Listed Zones ns = listFields zoneNumbers ns ≤ length ns
+
+abbrev pub KindListed : Kind → List ℕ → Type 0
+KindListed (Flight call) ns = Unit
+KindListed (Other call) ns = Listed call ns
 
 -- a case of `Kind`, with the line's numbers, is what is asked
 abbrev pub Says : Kind → List ℕ → Asked → Type 0
-Says kind ns asked = (kindAsks ns kind ≡ asked) × Listed kind ns
+Says kind ns asked = (kindAsks ns kind ≡ asked) × KindListed kind ns

@@ -1,22 +1,28 @@
 // The kinds of lines: from the numbers of a line to what it asks.
 ghost use mathlib.Core.Path.{_≡_};
-ghost use Prim.Native.Nat.{_+_, _<_};
+ghost use Prim.Native.Nat.{_+_, _<_, _≤_};
 ghost use lib.ListN.{length};
-ghost use Rattle.requests.specs.Kinds.{floatAt, isFlag, flagAt, pointFrom, openingFrom, openingLine, readingFrom, batteryOk, tickFrom, tickOk, tickLine};
-ghost use Rattle.requests.specs.Kinds.{reportLine, commandLine, pointsLine, zonesLine, requestOf, Says};
+ghost use Rattle.falcon_guidance.specs.State.{zoneNumbers};
+ghost use Rattle.requests.specs.Kinds.{floatAt, isFlag, flagAt, pointFrom, openingFields, openingFrom, openingLine, tickFields, readingFrom, batteryOk, tickFrom, tickOk, tickLine};
+ghost use Rattle.requests.specs.Kinds.{reportLine, commandLine, isList, pointsLine, zonesLine, requestOf, Says};
 use falcon_core::calls::Answer;
 use falcon_failsafe::flight::Opening;
 use falcon_guidance::state::Point;
 use falcon_guidance::state::Tick;
+use falcon_guidance::state::Zone;
 use relay_batt::Reading;
 use relay_fsm::Event;
 use relay_fsm::FoundEvent;
 use relay_math::from_bits;
 
-// What a line asks, by its kind, or the refusal that fits it whatever the state. The points or zones of a line stand in its numbers.
+// What a line asks, by its kind.
 pub enum Kind {
-    Refused(u32),
-    Opens(Opening),
+    Flight(FlightCall),
+    Other(OtherCall),
+}
+
+// A tick, a report or a command: what changes the flight and leaves the waypoints.
+pub enum FlightCall {
     Ticks(Tick),
     Reports(bool),
     Commands {
@@ -24,8 +30,27 @@ pub enum Kind {
         level: bool,
         throttle_low: bool,
     },
+}
+
+// What any other line asks, or the refusal that fits it whatever the state. The points or zones of a line stand in its numbers.
+pub enum OtherCall {
+    Refused(u32),
+    Opens(Opening),
     Points,
     Zones,
+}
+
+impl Kind {
+    // The fields of a line of each kind.
+    pub const OPENING_FIELDS: usize = 10;
+
+    pub const TICK_FIELDS: usize = 18;
+
+    pub const REPORT_FIELDS: usize = 2;
+
+    pub const COMMAND_FIELDS: usize = 4;
+    // The fields before the points or zones of a line: the kind, and how many follow.
+    pub const LIST_HEAD: usize = 2;
 }
 
 // Number k as a float.
@@ -66,7 +91,7 @@ fn point_from(ns: &[u32], k: usize) -> Point
 
 // The opening of a line of kind 1.
 fn opening_from(ns: &[u32]) -> Opening
-    requires { ⌜ length (now ns) ≡ 10 ⌝ }
+    requires { ⌜ length (now ns) ≡ openingFields ⌝ }
     ensures { λ r. ⌜ r ≡ openingFrom (now (ns .entry)) ⌝ }
 {
     let home = point_from(ns, 1);
@@ -85,18 +110,18 @@ fn opening_from(ns: &[u32]) -> Opening
 fn opening_line(ns: &[u32]) -> Kind
     ensures { λ r. ⌜ Says r (now (ns .entry)) (openingLine (now (ns .entry))) ⌝ }
 {
-    if ns.len() != 10 {
-        return Kind::Refused(Answer::WRONG_COUNT);
+    if ns.len() != Kind::OPENING_FIELDS {
+        return Kind::Other(OtherCall::Refused(Answer::WRONG_COUNT));
     }
     if is_flag(ns, 9) {
-        return Kind::Opens(opening_from(ns));
+        return Kind::Other(OtherCall::Opens(opening_from(ns)));
     }
-    Kind::Refused(Answer::OUT_OF_RANGE)
+    Kind::Other(OtherCall::Refused(Answer::OUT_OF_RANGE))
 }
 
 // The battery reading of a line of kind 2.
 fn reading_from(ns: &[u32]) -> Reading
-    requires { ⌜ length (now ns) ≡ 18 ⌝ }
+    requires { ⌜ length (now ns) ≡ tickFields ⌝ }
     ensures { λ r. ⌜ r ≡ readingFrom (now (ns .entry)) ⌝ }
 {
     let battery = ns[15];
@@ -115,7 +140,7 @@ fn reading_from(ns: &[u32]) -> Reading
 
 // The battery number is 0, 1 or 2, and what it leaves out is 0.
 fn battery_ok(ns: &[u32]) -> bool
-    requires { ⌜ length (now ns) ≡ 18 ⌝ }
+    requires { ⌜ length (now ns) ≡ tickFields ⌝ }
     ensures { λ r. ⌜ r ≡ batteryOk (now (ns .entry)) ⌝ }
 {
     let battery = ns[15];
@@ -124,7 +149,7 @@ fn battery_ok(ns: &[u32]) -> bool
 
 // The tick of a line of kind 2.
 fn tick_from(ns: &[u32]) -> Tick
-    requires { ⌜ length (now ns) ≡ 18 ⌝ }
+    requires { ⌜ length (now ns) ≡ tickFields ⌝ }
     ensures { λ r. ⌜ r ≡ tickFrom (now (ns .entry)) ⌝ }
 {
     let p = point_from(ns, 2);
@@ -147,7 +172,7 @@ fn tick_from(ns: &[u32]) -> Tick
 
 // The flags and the battery of a line of kind 2 are in range.
 fn tick_ok(ns: &[u32]) -> bool
-    requires { ⌜ length (now ns) ≡ 18 ⌝ }
+    requires { ⌜ length (now ns) ≡ tickFields ⌝ }
     ensures { λ r. ⌜ r ≡ tickOk (now (ns .entry)) ⌝ }
 {
     is_flag(ns, 11) & is_flag(ns, 12) & is_flag(ns, 13) & is_flag(ns, 14) & battery_ok(ns)
@@ -157,76 +182,78 @@ fn tick_ok(ns: &[u32]) -> bool
 fn tick_line(ns: &[u32]) -> Kind
     ensures { λ r. ⌜ Says r (now (ns .entry)) (tickLine (now (ns .entry))) ⌝ }
 {
-    if ns.len() != 18 {
-        return Kind::Refused(Answer::WRONG_COUNT);
+    if ns.len() != Kind::TICK_FIELDS {
+        return Kind::Other(OtherCall::Refused(Answer::WRONG_COUNT));
     }
     if tick_ok(ns) {
-        return Kind::Ticks(tick_from(ns));
+        return Kind::Flight(FlightCall::Ticks(tick_from(ns)));
     }
-    Kind::Refused(Answer::OUT_OF_RANGE)
+    Kind::Other(OtherCall::Refused(Answer::OUT_OF_RANGE))
 }
 
 // A line of kind 3.
 fn report_line(ns: &[u32]) -> Kind
     ensures { λ r. ⌜ Says r (now (ns .entry)) (reportLine (now (ns .entry))) ⌝ }
 {
-    if ns.len() != 2 {
-        return Kind::Refused(Answer::WRONG_COUNT);
+    if ns.len() != Kind::REPORT_FIELDS {
+        return Kind::Other(OtherCall::Refused(Answer::WRONG_COUNT));
     }
     if is_flag(ns, 1) {
-        return Kind::Reports(flag_at(ns, 1));
+        return Kind::Flight(FlightCall::Reports(flag_at(ns, 1)));
     }
-    Kind::Refused(Answer::OUT_OF_RANGE)
+    Kind::Other(OtherCall::Refused(Answer::OUT_OF_RANGE))
 }
 
 // A line of kind 4.
 fn command_line(ns: &[u32]) -> Kind
     ensures { λ r. ⌜ Says r (now (ns .entry)) (commandLine (now (ns .entry))) ⌝ }
 {
-    if ns.len() != 4 {
-        return Kind::Refused(Answer::WRONG_COUNT);
+    if ns.len() != Kind::COMMAND_FIELDS {
+        return Kind::Other(OtherCall::Refused(Answer::WRONG_COUNT));
     }
     if is_flag(ns, 2) & is_flag(ns, 3) {
         let FoundEvent::Known(ev) = Event::from_number(ns[1]) else {
-            return Kind::Refused(Answer::OUT_OF_RANGE);
+            return Kind::Other(OtherCall::Refused(Answer::OUT_OF_RANGE));
         };
-        return Kind::Commands {
+        return Kind::Flight(FlightCall::Commands {
             ev,
             level: flag_at(ns, 2),
             throttle_low: flag_at(ns, 3),
-        };
+        });
     }
-    Kind::Refused(Answer::OUT_OF_RANGE)
+    Kind::Other(OtherCall::Refused(Answer::OUT_OF_RANGE))
+}
+
+// A line of points or zones has so many numbers for each of them.
+fn is_list(ns: &[u32], width: usize) -> bool
+    requires { ⌜ width ≤ zoneNumbers ⌝ }
+    ensures { λ r. ⌜ r ≡ isList width (now (ns .entry)) ⌝ }
+{
+    if ns.len() < Kind::LIST_HEAD {
+        return false;
+    }
+    let count = ns[1] as usize;
+    ns.len() == Kind::LIST_HEAD + width * count
 }
 
 // A line of kind 5.
 fn points_line(ns: &[u32]) -> Kind
     ensures { λ r. ⌜ Says r (now (ns .entry)) (pointsLine (now (ns .entry))) ⌝ }
 {
-    let n = ns.len();
-    if n < 2 {
-        return Kind::Refused(Answer::WRONG_COUNT);
+    if is_list(ns, Point::NUMBERS) {
+        return Kind::Other(OtherCall::Points);
     }
-    let count = ns[1] as usize;
-    if n != 2 + 3 * count {
-        return Kind::Refused(Answer::WRONG_COUNT);
-    }
-    Kind::Points
+    Kind::Other(OtherCall::Refused(Answer::WRONG_COUNT))
 }
 
 // A line of kind 6.
 fn zones_line(ns: &[u32]) -> Kind
     ensures { λ r. ⌜ Says r (now (ns .entry)) (zonesLine (now (ns .entry))) ⌝ }
 {
-    let n = ns.len();
-    if n < 2 {
-        return Kind::Refused(Answer::WRONG_COUNT);
+    if is_list(ns, Zone::NUMBERS) {
+        return Kind::Other(OtherCall::Zones);
     }
-    let count = ns[1] as usize;
-    if n != 2 + 4 * count {
-        return Kind::Refused(Answer::WRONG_COUNT);
-    }
-    Kind::Zones
+    Kind::Other(OtherCall::Refused(Answer::WRONG_COUNT))
 }
 
 // What the numbers of a line ask, by its kind.
@@ -253,5 +280,5 @@ pub(crate) fn kind_of(ns: &[u32]) -> Kind
     if kind == 6 {
         return zones_line(ns);
     }
-    Kind::Refused(Answer::UNKNOWN_KIND)
+    Kind::Other(OtherCall::Refused(Answer::UNKNOWN_KIND))
 }

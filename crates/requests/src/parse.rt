@@ -7,6 +7,7 @@ ghost use Rattle.columns.specs.Line.{readWithin};
 ghost use Rattle.requests.specs.Kinds.{Says};
 ghost use Rattle.requests.specs.Parse.{limitFields, mostFields, readingLine, askedLine};
 use crate::kinds::Kind;
+use crate::kinds::OtherCall;
 use crate::kinds::kind_of;
 use columns::field::FIELD;
 use columns::field::read_kind;
@@ -39,13 +40,21 @@ fn line_limit(line: &[u8]) -> usize
 }
 
 // What a line asks. The array takes its numbers.
-pub fn asked(line: &[u8], numbers: &mut [u32]) -> Kind
+fn asked_into(line: &[u8], numbers: &mut [u32]) -> Kind
     requires { ⌜ mostFields ≤ length (now numbers) ⌝ }
     ensures { λ r. ⌜ Says r (now (numbers .exit)) (askedLine (now (line .entry))) ⌝ }
 {
     let limit = line_limit(line);
     let LineRead::Numbers(count) = read_line(line, limit, numbers) else {
-        return Kind::Refused(Answer::NOT_A_LINE);
+        return Kind::Other(OtherCall::Refused(Answer::NOT_A_LINE));
     };
     kind_of(&numbers[..count])
+}
+
+// The same with an array that has a place for each number of any line.
+pub fn asked(line: &[u8], numbers: &mut [u32; MOST_FIELDS]) -> Kind
+    ensures { λ r. ⌜ Says r (now (numbers .exit)) (askedLine (now (line .entry))) ⌝ }
+    ensures { λ _. ⌜ length (now (numbers .exit)) ≡ mostFields ⌝ }
+{
+    asked_into(line, numbers)
 }

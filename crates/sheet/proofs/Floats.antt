@@ -1,4 +1,4 @@
--- Numbers read as floats into a lent array, one after the other. Assumes nothing.
+-- Numbers copied or read as floats into a lent array, one after the other. Assumes nothing.
 use Prim.Native.Nat.{ℕ, zero, suc, _+_, _-_, _≤_, _<_}
 use native.Mathlib.Omega.{arith}
 use native.Mathlib.Nat.{not-suc-le-zero, le-of-suc-le-suc}
@@ -20,6 +20,17 @@ module _ {A : Type 0} (f : ℕ → A) where
   mapped-next (n ∷ ns) (x ∷ d) zero h k = refl
   mapped-next (n ∷ ns) (x ∷ d) (suc i) h k =
       ap {B = List A} (λ l. f n ∷ l) (mapped-next ns d i (le-of-suc-le-suc h) (le-of-suc-le-suc k))
+
+-- one number more copied
+pub copied-next :
+    (ns d : List ℕ) (i : ℕ) →
+    i < length ns →
+    length ns ≤ length d →
+    set (take i ns ++ drop i d) i (getD ns i 0) ≡ take (suc i) ns ++ drop (suc i) d
+copied-next [] d i h k = absurd (not-suc-le-zero h)
+copied-next (n ∷ ns) [] i h k = absurd (not-suc-le-zero k)
+copied-next (n ∷ ns) (x ∷ d) zero h k = refl
+copied-next (n ∷ ns) (x ∷ d) (suc i) h k = ap {B = List ℕ} (λ l. n ∷ l) (copied-next ns d i (le-of-suc-le-suc h) (le-of-suc-le-suc k))
 
 -- a list in front of another
 pub take-front : {A : Type 0} (l r : List A) → take (length l) (l ++ r) ≡ l

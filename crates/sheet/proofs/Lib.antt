@@ -1,5 +1,6 @@
 mod Examples
 mod Floats
+pub mod Entries
 pub mod LinesAgain
 pub mod LinesCut
 pub mod LinesTurns

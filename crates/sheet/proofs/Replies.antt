@@ -5,22 +5,19 @@ use native.Mathlib.Omega.{arith}
 use mathlib.Core.Path.{_≡_, refl, sym, ap, _∙_}
 use mathlib.Core.List.{List, [], _∷_, _++_}
 use lib.ListN.{length, take, drop, length-append}
-use lib.Seq.{length-take-le, take-all}
+use lib.Seq.{length-take-le}
 use Rattle.falcon_core.specs.declared.supervisor.Supervisor.{Supervisor}
-use Rattle.falcon_core.specs.declared.calls.Answered.{Answered}
-use Rattle.sheet.specs.declared.entry.LineAnswered.{LineAnswered}
-use Rattle.sheet.specs.declared.entry.LineReplied.{LineReplied}
 use Rattle.sheet.specs.declared.many.Progress.{Progress}
-use Rattle.sheet.specs.Entry.{lineAnswered, lineReplied}
 use Rattle.columns.specs.Field.{fieldWidth, put}
-use Rattle.columns.specs.Line.{Reading}
+use Rattle.columns.specs.Line.{Reading, lineOf}
+use Rattle.columns.proofs.Writing.{length-line}
 use Rattle.sheet.specs.Lines.{newline, whole, joined, lineEnd, lastLine, linesOf, together, answers, stream}
 use Rattle.requests.specs.Kinds.{answeredBy}
-use Rattle.requests.specs.ByLine.{answerWidth, needOf, replyOf}
+use Rattle.requests.specs.ByLine.{needOf, replyNumbers, replyOf}
 use Rattle.requests.specs.Parse.{mostFields, askedBy, askedLine}
 use Rattle.sheet.specs.Many.{afterLine, replyLine, fittingRoom, fitting, EndsFitting, replies, progressOf, answersOver}
 use Rattle.requests.proofs.Asking.{reading-cut}
-use Rattle.requests.proofs.Buffer.{reply-width, reply-fits}
+use Rattle.requests.proofs.Buffer.{reply-fits}
 use Rattle.sheet.proofs.LinesAgain.{used-most, line-at, line-none}
 use Rattle.sheet.proofs.LinesCut.{stream-all}
 use Rattle.sheet.proofs.LinesTurns.{Going}
@@ -31,13 +28,18 @@ pub line-fits : (s : Supervisor) (l : List ℕ) → length (replyLine s l) ≤ n
 unfolding replyLine
 line-fits s l = reply-fits s l
 
--- ---- what `answer` gives back
+-- the numbers of a reply: they have room where the line's need has, and as bytes they are the reply
+module _ (s : Supervisor) (l ns : List ℕ) (is : ns ≡ replyNumbers (answeredBy s (askedLine l))) where
+  pub reply-room : fieldWidth * length ns ≤ needOf l
+  unfolding replyOf
+  reply-room = omega (arith, ap (λ (m : List ℕ). length m) is, length-line (replyNumbers (answeredBy s (askedLine l))), reply-fits s l)
 
-pub replied-is : (a : Answered) → _≡_ {A = LineReplied} (record { supervisor = a .supervisor; refusal = a .answer .refusal; width = answerWidth }) (lineReplied a)
-replied-is a = ap (λ (n : ℕ). record { supervisor = a .supervisor; refusal = a .answer .refusal; width = n }) (sym (reply-width a))
+  pub reply-line : lineOf ns ≡ replyLine s l
+  unfolding replyLine replyOf
+  reply-line = ap lineOf is
 
-pub answered-is : (r : LineReplied) (a : Answered) → r ≡ lineReplied a → _≡_ {A = LineAnswered} (record { supervisor = r .supervisor; refusal = r .refusal }) (lineAnswered a)
-answered-is r a e = ap {B = LineAnswered} (λ (x : LineReplied). record { supervisor = x .supervisor; refusal = x .refusal }) e
+  pub reply-long : fieldWidth * length ns ≡ length (replyLine s l)
+  reply-long = sym (length-line ns) ∙ ap (λ (m : List ℕ). length m) reply-line
 
 -- an input that is read in parts, cut anywhere, has the answers of its lines
 pub in-parts : (s : Supervisor) (cs : List (List ℕ)) → stream afterLine replyLine (fieldWidth * mostFields) s [] cs ≡ replies s (linesOf (together cs))
@@ -131,19 +133,14 @@ last-one s (b ∷ input) out q h =
     ∙ ap (λ (ls : List (List ℕ)). (b ∷ input) ∷ ls)
     (fit-none afterLine replyLine needOf (afterLine s (b ∷ input)) (length out - (length (replyLine s (b ∷ input)) + 1)))
 
--- the line from the first place to the last is the input
-pub all-line : (input : List ℕ) → take (length input - 0) (drop 0 input) ≡ input
-all-line input = take-all (length input - 0) input (omega arith)
-
 pub last-answer : (s : Supervisor) (input out next : List ℕ) → (length input ≡ 0 → ⊥) → needOf input < length out
-    → next ≡ put out 0 (replyLine s (take (length input - 0) (drop 0 input)) ++ (newline ∷ []))
+    → next ≡ put out 0 (replyLine s input ++ (newline ∷ []))
     → (length (replyLine s input) + 1 ≡ length (replies s (fitting s (lastLine input) out))) × (next ≡ answersOver s (fitting s (lastLine input) out) out)
 unfolding put replies answers answersOver
 last-answer s input out next q h e =
     let one : fitting s (lastLine input) out ≡ input ∷ [] = last-one s input out q h in (
       sym (length-append (replyLine s input) (newline ∷ [])) ∙ ap (λ (ls : List (List ℕ)). length (replies s ls)) (sym one),
       e
-          ∙ ap (λ (l : List ℕ). put out 0 (replyLine s l ++ (newline ∷ []))) (all-line input)
           ∙ ap (λ (n : ℕ). (replyLine s input ++ (newline ∷ [])) ++ drop n out) (zero-add (length (replyLine s input ++ (newline ∷ []))))
           ∙ ap (λ (ls : List (List ℕ)). answersOver s ls out) (sym one),
     )

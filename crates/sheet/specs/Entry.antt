@@ -1,14 +1,28 @@
--- What `answer` gives back, and what it gives many lines.
-use lib.ListN.{length}
+-- What `answer` gives back, and what the entries of a line leave: the state after it, and the numbers of its answer.
+use Prim.Native.Nat.{ℕ, _≤_}
+use mathlib.Core.Path.{_≡_}
+use mathlib.Core.List.{List}
+use lib.ListN.{length, take}
+use Rattle.falcon_core.specs.declared.supervisor.Supervisor.{Supervisor}
 use Rattle.falcon_core.specs.declared.calls.Answered.{Answered}
-use Rattle.requests.specs.ByLine.{replyOf}
+use Rattle.falcon_core.specs.declared.calls.FlightAnswered.{FlightAnswered}
+use Rattle.falcon_core.specs.Calls.{answerFields, numbersOf}
+use Rattle.requests.specs.ByLine.{replyNumbers}
 use Rattle.sheet.specs.declared.entry.LineAnswered.{LineAnswered}
-use Rattle.sheet.specs.declared.entry.LineReplied.{LineReplied}
+use Rattle.sheet.specs.declared.entry.FlightReplied.{FlightReplied}
 
 -- the state after a call by line, and its refusal
 abbrev pub lineAnswered : Answered → LineAnswered
 lineAnswered a = record { supervisor = a .supervisor; refusal = a .answer .refusal }
 
--- the same, with the bytes that the answer takes
-abbrev pub lineReplied : Answered → LineReplied
-lineReplied a = record { supervisor = a .supervisor; refusal = a .answer .refusal; width = length (replyOf a) }
+-- the state is that after the answer, whose numbers are the first of these, so many
+pub record Replied (a : Answered) (s : Supervisor) (ns : List ℕ) (count : ℕ) : Type 0 where
+  pub state : s ≡ a .supervisor
+  pub numbers : take count ns ≡ replyNumbers a
+  pub among : count ≤ length ns
+
+-- the flight's part is that after the answer, whose ten numbers are the first of these
+pub record FlightLeft (a : FlightAnswered) (r : FlightReplied) (ns : List ℕ) : Type 0 where
+  pub flight : r .flight ≡ a .flight
+  pub due : r .«report_due» ≡ a .«report_due»
+  pub numbers : take answerFields ns ≡ numbersOf (a .answer)

@@ -1,27 +1,36 @@
 // A call by line, with the buffer for its answer.
 ghost use mathlib.Core.Path.{_≡_};
 ghost use mathlib.Core.List.{map, _++_};
-ghost use Prim.Native.Nat.{_+_, _*_, _≤_};
+ghost use Prim.Native.Nat.{_≤_};
 ghost use lib.Dec.{leb, ltb};
-ghost use lib.ListN.{length, drop};
+ghost use lib.ListN.{length, take, drop};
 ghost use lib.Ieee.{binary32, ofBits};
-ghost use Rattle.falcon_core.specs.Calls.{numbersOf, plans, points, zones, stepOf};
+ghost use Rattle.falcon_guidance.specs.State.{pointNumbers, zoneNumbers};
+ghost use Rattle.falcon_core.specs.Calls.{answerFields, numbersOf, plans, points, zones, flightStepOf, stepOf};
 ghost use Rattle.columns.specs.Field.{inRange};
-ghost use Rattle.columns.specs.Line.{writtenOver};
-ghost use Rattle.requests.specs.Kinds.{answeredBy, numberAt, listLine, listFloats, kindAsks, Listed};
+ghost use Rattle.requests.specs.Kinds.{answeredBy, listFields, listLine, listFloats, flightAsks, otherAsks, kindAsks, Listed, KindListed};
 ghost use Rattle.requests.specs.Parse.{mostFields, askedLine};
 ghost use Rattle.requests.specs.ByLine.{needFields, needOf, lineStep, bufferAfter};
-ghost use Rattle.sheet.specs.Entry.{lineAnswered, lineReplied};
-ghost use Rattle.sheet.specs.Many.{replyLine};
+ghost use Rattle.sheet.specs.Entry.{lineAnswered, Replied, FlightLeft};
 use columns::field::FIELD;
 use columns::field::read_kind;
 use columns::field::write_numbers;
 use falcon_core::calls::Answer;
 use falcon_core::calls::Answered;
+use falcon_core::calls::flight_command;
+use falcon_core::calls::flight_report;
+use falcon_core::calls::flight_tick;
 use falcon_core::calls::refused;
 use falcon_core::supervisor::Supervisor;
+use falcon_failsafe::flight::FlightSupervisor;
+use falcon_guidance::mission::legs;
+use falcon_guidance::state::Legs;
+use falcon_guidance::state::Point;
+use falcon_guidance::state::Zone;
 use relay_math::from_bits;
+use requests::kinds::FlightCall;
 use requests::kinds::Kind;
+use requests::kinds::OtherCall;
 use requests::parse::MOST_FIELDS;
 use requests::parse::asked;
 
@@ -37,11 +46,16 @@ pub struct LineAnswered {
     pub refusal: u32,
 }
 
-// The state after a line, the refusal that its answer gives, and the bytes of that answer.
+// The state after a line, and how many numbers its answer has.
 pub(crate) struct LineReplied {
     pub supervisor: Supervisor,
-    pub refusal: u32,
-    pub width: usize,
+    pub count: usize,
+}
+
+// What a tick, a report or a command leaves of the flight's part of the state; its answer has ten numbers.
+pub(crate) struct FlightReplied {
+    pub flight: FlightSupervisor,
+    pub report_due: bool,
 }
 
 // How many fields the answer to a line of this kind needs.
@@ -90,80 +104,155 @@ fn read_floats(numbers: &[u32], floats: &mut [f32])
     }
 }
 
+// The floats of a line of points or zones, whose numbers are the first of these. Answers how many they are.
+fn list_floats(numbers: &[u32], width: usize, floats: &mut [f32]) -> usize
+    requires { ⌜ (width ≤ zoneNumbers) × ((listFields width (now numbers) ≤ length (now numbers)) × (length (now numbers) ≤ length (now floats))) ⌝ }
+    ensures { λ r. ⌜ (r ≤ length (now (floats .exit))) × (take r (now (floats .exit)) ≡ listFloats (listLine width (now (numbers .entry)))) ⌝ }
+{
+    let lent = width * (numbers[1] as usize);
+    let end = Kind::LIST_HEAD + lent;
+    read_floats(&numbers[Kind::LIST_HEAD..end], floats);
+    lent
+}
+
 // The points of a line, whose numbers are the first of these.
 fn points_step(s: Supervisor, numbers: &[u32]) -> Answered
-    requires { ⌜ (2 + 3 * numberAt (now numbers) 1 ≤ length (now numbers)) × (length (now numbers) ≤ mostFields) ⌝ }
-    ensures { λ r. ⌜ r ≡ stepOf s (plans (points (listFloats (listLine 3 (now (numbers .entry)))))) ⌝ }
+    requires { ⌜ (listFields pointNumbers (now numbers) ≤ length (now numbers)) × (length (now numbers) ≤ mostFields) ⌝ }
+    ensures { λ r. ⌜ r ≡ stepOf s (plans (points (listFloats (listLine pointNumbers (now (numbers .entry)))))) ⌝ }
 {
-    let lent = 3 * (numbers[1] as usize);
-    let end = 2 + lent;
     let mut floats = [0.0f32; MOST_FIELDS];
-    read_floats(&numbers[2..end], &mut floats);
+    let lent = list_floats(numbers, Point::NUMBERS, &mut floats);
     s.set_mission_waypoints(&floats[..lent])
 }
 
 // The zones of a line, whose numbers are the first of these.
 fn zones_step(s: Supervisor, numbers: &[u32]) -> Answered
-    requires { ⌜ (2 + 4 * numberAt (now numbers) 1 ≤ length (now numbers)) × (length (now numbers) ≤ mostFields) ⌝ }
-    ensures { λ r. ⌜ r ≡ stepOf s (plans (zones (listFloats (listLine 4 (now (numbers .entry)))))) ⌝ }
+    requires { ⌜ (listFields zoneNumbers (now numbers) ≤ length (now numbers)) × (length (now numbers) ≤ mostFields) ⌝ }
+    ensures { λ r. ⌜ r ≡ stepOf s (plans (zones (listFloats (listLine zoneNumbers (now (numbers .entry)))))) ⌝ }
 {
-    let lent = 4 * (numbers[1] as usize);
-    let end = 2 + lent;
     let mut floats = [0.0f32; MOST_FIELDS];
-    read_floats(&numbers[2..end], &mut floats);
+    let lent = list_floats(numbers, Zone::NUMBERS, &mut floats);
     s.set_keepout_zones(&floats[..lent])
 }
 
-// What a line is answered with, by its kind; the line's numbers are the first of these.
-fn step(s: Supervisor, kind: Kind, numbers: &[u32]) -> Answered
-    requires { ⌜ Listed kind (now numbers) × (length (now numbers) ≤ mostFields) ⌝ }
-    ensures { λ r. ⌜ r ≡ answeredBy s (kindAsks (now (numbers .entry)) kind) ⌝ }
+// The answer's numbers, at the front of the array.
+fn put_answer(numbers: &mut [u32], a: Answer)
+    requires { ⌜ answerFields ≤ length (now numbers) ⌝ }
+    ensures { λ _. ⌜ now (numbers .exit) ≡ numbersOf a ++ drop answerFields (now (numbers .entry)) ⌝ }
 {
-    match kind {
-        Kind::Refused(refusal) => refused(s, refusal),
-        Kind::Opens(o) => s.opening(o),
-        Kind::Ticks(t) => s.tick(t),
-        Kind::Reports(failed) => s.report(failed),
-        Kind::Commands {
+    let ten = a.numbers();
+    let mut i = 0;
+    while i < Answer::FIELDS {
+        numbers[i] = ten[i];
+        i += 1;
+    }
+}
+
+// A tick, a report or a command, from the flight and the waypoints of the active leg and of the next. The array takes the answer's numbers.
+pub(crate) fn answer_flight(
+    f: FlightSupervisor,
+    opened: bool,
+    due: bool,
+    legs: Legs,
+    call: FlightCall,
+    numbers: &mut [u32],
+) -> FlightReplied
+    requires { ⌜ answerFields ≤ length (now numbers) ⌝ }
+    ensures { λ r. ⌜ FlightLeft (flightStepOf f opened due legs (flightAsks call)) r (now (numbers .exit)) ⌝ }
+{
+    let told = match call {
+        FlightCall::Ticks(t) => flight_tick(f, opened, due, legs, t),
+        FlightCall::Reports(failed) => flight_report(f, opened, due, failed),
+        FlightCall::Commands {
             ev,
             level,
             throttle_low,
-        } => s.command(ev, level, throttle_low),
-        Kind::Points => points_step(s, numbers),
-        Kind::Zones => zones_step(s, numbers),
+        } => flight_command(f, opened, due, ev, level, throttle_low),
+    };
+    let a = told.answer;
+    put_answer(numbers, a);
+    let flight = told.flight;
+    FlightReplied {
+        flight,
+        report_due: told.report_due,
     }
 }
 
-// The answer's fields at the start of the buffer, where it has room for them.
-fn write_answer(out: &mut [u8], a: Answer)
-    ensures { λ _. ⌜ now (out .exit) ≡ writtenOver (numbersOf a) (now (out .entry)) ⌝ }
+// What any other line is answered with; its numbers are the first of these.
+fn other_step(s: Supervisor, call: OtherCall, numbers: &[u32]) -> Answered
+    requires { ⌜ Listed call (now numbers) × (length (now numbers) ≡ mostFields) ⌝ }
+    ensures { λ r. ⌜ r ≡ answeredBy s (otherAsks (now (numbers .entry)) call) ⌝ }
 {
-    let numbers = a.numbers();
-    write_numbers(out, &numbers);
+    match call {
+        OtherCall::Refused(refusal) => refused(s, refusal),
+        OtherCall::Opens(o) => s.opening(o),
+        OtherCall::Points => points_step(s, numbers),
+        OtherCall::Zones => zones_step(s, numbers),
+    }
 }
 
-// Answers a line into a buffer that has what it needs, with an array for the line's numbers.
-pub(crate) fn answer_full(
-    s: Supervisor,
-    line: &[u8],
-    numbers: &mut [u32],
-    out: &mut [u8],
-) -> LineReplied
-    requires { ⌜ (length (now numbers) ≡ mostFields) × (needOf (now line) ≤ length (now out)) ⌝ }
-    ensures { λ r. ⌜ r ≡ lineReplied (answeredBy s (askedLine (now (line .entry)))) ⌝ }
-    ensures { λ _. ⌜ now (out .exit) ≡ replyLine s (now (line .entry)) ++ drop (length (replyLine s (now (line .entry)))) (now (out .entry)) ⌝ }
-    ensures { λ _. ⌜ now (line .exit) ≡ now (line .entry) ⌝ }
+// Any other line. The array has the line's numbers, and takes the answer's.
+pub(crate) fn answer_other(s: Supervisor, call: OtherCall, numbers: &mut [u32]) -> LineReplied
+    requires { ⌜ Listed call (now numbers) × (length (now numbers) ≡ mostFields) ⌝ }
+    ensures { λ r. ⌜ Replied (answeredBy s (otherAsks (now (numbers .entry)) call)) (r .supervisor) (now (numbers .exit)) (r .count) ⌝ }
 {
-    let kind = asked(line, numbers);
-    let answered = step(s, kind, numbers);
+    let answered = other_step(s, call, numbers);
     let a = answered.answer;
-    write_answer(out, a);
+    put_answer(numbers, a);
     let supervisor = answered.supervisor;
     LineReplied {
         supervisor,
-        refusal: a.refusal,
-        width: ANSWER,
+        count: Answer::FIELDS,
     }
+}
+
+// A tick, a report or a command, from the whole state.
+fn answer_over(s: Supervisor, call: FlightCall, numbers: &mut [u32]) -> LineReplied
+    requires { ⌜ length (now numbers) ≡ mostFields ⌝ }
+    ensures { λ r. ⌜ Replied (stepOf s (flightAsks call)) (r .supervisor) (now (numbers .exit)) (r .count) ⌝ }
+{
+    let config = s.flight.config;
+    let mission = s.flight.mission;
+    let waypoints = s.waypoints;
+    let told = answer_flight(
+        s.flight,
+        s.opened,
+        s.report_due,
+        legs(config, waypoints, mission),
+        call,
+        numbers,
+    );
+    let flight = told.flight;
+    let mut supervisor = s;
+    supervisor.flight = flight;
+    supervisor.report_due = told.report_due;
+    LineReplied {
+        supervisor,
+        count: Answer::FIELDS,
+    }
+}
+
+// Answers what a line asks. The array has the line's numbers, and takes the answer's.
+fn answer_kind(s: Supervisor, kind: Kind, numbers: &mut [u32]) -> LineReplied
+    requires { ⌜ KindListed kind (now numbers) × (length (now numbers) ≡ mostFields) ⌝ }
+    ensures { λ r. ⌜ Replied (answeredBy s (kindAsks (now (numbers .entry)) kind)) (r .supervisor) (now (numbers .exit)) (r .count) ⌝ }
+{
+    match kind {
+        Kind::Flight(call) => answer_over(s, call, numbers),
+        Kind::Other(call) => answer_other(s, call, numbers),
+    }
+}
+
+// Answers a line. The array takes the answer's numbers.
+pub(crate) fn answer_numbers(
+    s: Supervisor,
+    line: &[u8],
+    numbers: &mut [u32; MOST_FIELDS],
+) -> LineReplied
+    ensures { λ r. ⌜ Replied (answeredBy s (askedLine (now (line .entry)))) (r .supervisor) (now (numbers .exit)) (r .count) ⌝ }
+{
+    let kind = asked(line, numbers);
+    answer_kind(s, kind, numbers)
 }
 
 // Answers a line. Under what its kind needs, 110 bytes, nothing is written and the refusal is 9.
@@ -179,10 +268,12 @@ pub fn answer(s: Supervisor, line: &[u8], out: &mut [u8]) -> LineAnswered
         };
     }
     let mut numbers = [0u32; MOST_FIELDS];
-    let replied = answer_full(s, line, &mut numbers, out);
+    let replied = answer_numbers(s, line, &mut numbers);
+    let count = replied.count;
+    write_numbers(out, &numbers[..count]);
     let supervisor = replied.supervisor;
     LineAnswered {
         supervisor,
-        refusal: replied.refusal,
+        refusal: numbers[0],
     }
 }

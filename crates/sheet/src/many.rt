@@ -1,23 +1,29 @@
 // Many lines answered into one buffer, each answer with a newline after it.
 
-ghost use Prim.Native.Nat.{_+_, _-_, _≤_};
+ghost use Prim.Native.Nat.{_+_, _*_, _≤_};
 ghost use mathlib.Core.Path.{_≡_};
 ghost use mathlib.Core.List.{_++_, _∷_, []};
-ghost use lib.ListN.{length, take, drop};
+ghost use lib.ListN.{length};
 ghost use Rattle.falcon_core.specs.Supervisor.{unopened};
-ghost use Rattle.columns.specs.Field.{put};
-ghost use Rattle.requests.specs.Kinds.{answeredBy};
-ghost use Rattle.requests.specs.Parse.{mostFields, askedLine};
-ghost use Rattle.requests.specs.ByLine.{needOf};
-ghost use Rattle.sheet.specs.Entry.{lineReplied};
+ghost use Rattle.columns.specs.Field.{fieldWidth, put};
+ghost use Rattle.columns.specs.Line.{lineOf};
 ghost use Rattle.sheet.specs.Lines.{newline, whole, lastLine, linesOf};
-ghost use Rattle.sheet.specs.Many.{replyLine, fitting, EndsFitting, replies, progressOf, answersOver};
-use crate::entry::LineReplied;
-use crate::entry::answer_full;
+ghost use Rattle.sheet.specs.Many.{fitting, EndsFitting, replies, progressOf, answersOver};
+use crate::entry::answer_flight;
+use crate::entry::answer_numbers;
+use crate::entry::answer_other;
 use crate::entry::lacks_room;
+use crate::legs::here_place;
+use crate::legs::legs_from;
+use crate::legs::next_place;
 use crate::lines::find_newline;
+use columns::field::FIELD;
+use columns::field::write_numbers;
+use falcon_core::calls::Answer;
 use falcon_core::supervisor::Supervisor;
+use requests::kinds::Kind;
 use requests::parse::MOST_FIELDS;
+use requests::parse::asked;
 
 // What was answered: the state after it, the bytes read and written, and the lines.
 pub struct Progress {
@@ -27,24 +33,16 @@ pub struct Progress {
     pub lines: usize,
 }
 
-// Answers the line from `from` to `end`, and puts the answer at place `at`. The array takes the line's numbers.
-fn answer_at(
-    s: Supervisor,
-    input: &[u8],
-    from: usize,
-    end: usize,
-    numbers: &mut [u32],
-    out: &mut [u8],
-    at: usize,
-) -> LineReplied
-    requires { ⌜ (from ≤ end) × ((end ≤ length (now input)) × ((length (now numbers) ≡ mostFields) × (at + (needOf (take (end - from) (drop from (now input))) + 1) ≤ length (now out)))) ⌝ }
-    ensures { λ r. ⌜ r ≡ lineReplied (answeredBy s (askedLine (take (end - from) (drop from (now (input .entry)))))) ⌝ }
-    ensures { λ _. ⌜ now (out .exit) ≡ put (now (out .entry)) at (replyLine s (take (end - from) (drop from (now (input .entry)))) ++ (newline ∷ [])) ⌝ }
+// Writes an answer of these numbers at `at`, with a newline after it. Answers the place behind it.
+fn write_reply(numbers: &[u32], out: &mut [u8], at: usize) -> usize
+    requires { ⌜ at + (fieldWidth * length (now numbers) + 1) ≤ length (now out) ⌝ }
+    ensures { λ r. ⌜ r ≡ at + (fieldWidth * length (now (numbers .entry)) + 1) ⌝ }
+    ensures { λ _. ⌜ now (out .exit) ≡ put (now (out .entry)) at (lineOf (now (numbers .entry)) ++ (newline ∷ [])) ⌝ }
 {
-    let replied = answer_full(s, &input[from..end], numbers, &mut out[at..]);
-    let last = at + replied.width;
+    write_numbers(&mut out[at..], numbers);
+    let last = at + FIELD * numbers.len();
     out[last] = b'\n';
-    replied
+    last + 1
 }
 
 // The end of the line at `from`, where a newline ends it and its answer with a newline fits so many bytes; else the length, or more.
@@ -68,20 +66,58 @@ pub fn answer_lines(s: Supervisor, input: &[u8], out: &mut [u8]) -> Progress
     ensures unchanged { λ _. ⌜ now (input .exit) ≡ now (input .entry) ⌝ }
 {
     let mut numbers = [0u32; MOST_FIELDS];
-    let mut supervisor = s;
+    let mut flight = s.flight;
+    let mut waypoints = s.waypoints;
+    let mut opened = s.opened;
+    let mut report_due = s.report_due;
     let mut used = 0;
     let mut written = 0;
     let mut lines = 0;
     let mut end = next_fitting(input, 0, out.len());
     while end < input.len() {
         let next = end + 1;
-        let replied = answer_at(supervisor, input, used, end, &mut numbers, out, written);
-        supervisor = replied.supervisor;
+        let kind = asked(&input[used..end], &mut numbers);
+        let mut count = Answer::FIELDS;
+        match kind {
+            Kind::Flight(call) => {
+                let config = flight.config;
+                let mission = flight.mission;
+                let here_at = here_place(mission);
+                let next_at = next_place(mission);
+                let here = waypoints[here_at];
+                let beyond = waypoints[next_at];
+                let legs = legs_from(config, mission, here, beyond);
+                let told = answer_flight(flight, opened, report_due, legs, call, &mut numbers);
+                flight = told.flight;
+                report_due = told.report_due;
+            }
+            Kind::Other(call) => {
+                let supervisor = Supervisor {
+                    flight,
+                    waypoints,
+                    opened,
+                    report_due,
+                };
+                let replied = answer_other(supervisor, call, &mut numbers);
+                let after = replied.supervisor;
+                flight = after.flight;
+                waypoints = after.waypoints;
+                opened = after.opened;
+                report_due = after.report_due;
+                count = replied.count;
+            }
+        }
+        written = write_reply(&numbers[..count], out, written);
         used = next;
-        written += replied.width + 1;
         lines += 1;
         end = next_fitting(input, used, out.len() - written);
     }
+    let supervisor = Supervisor {
+        flight,
+        waypoints,
+        opened,
+        report_due,
+    };
     Progress {
         supervisor,
         used,
@@ -96,16 +132,16 @@ pub fn answer_last(s: Supervisor, input: &[u8], out: &mut [u8]) -> usize
     ensures buffer { λ _. ⌜ now (out .exit) ≡ answersOver s (fitting s (lastLine (now (input .entry))) (now (out .entry))) (now (out .entry)) ⌝ }
     ensures unchanged { λ _. ⌜ now (input .exit) ≡ now (input .entry) ⌝ }
 {
-    let end = input.len();
-    if end == 0 {
+    if input.len() == 0 {
         return 0;
     }
     if lacks_room(input, out.len()) {
         return 0;
     }
     let mut numbers = [0u32; MOST_FIELDS];
-    let replied = answer_at(s, input, 0, end, &mut numbers, out, 0);
-    replied.width + 1
+    let replied = answer_numbers(s, input, &mut numbers);
+    let count = replied.count;
+    write_reply(&numbers[..count], out, 0)
 }
 
 // Answers a sheet from the state with no opening, as many of its lines as fit the buffer. Answers how many bytes were written.

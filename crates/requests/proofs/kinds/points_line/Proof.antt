@@ -1,40 +1,31 @@
-use Prim.Native.Nat.{_+_, _*_}
 use native.Mathlib.Omega.{arith}
-use mathlib.Core.Path.{_≡_}
-use lib.ListN.{length, getD}
+use mathlib.Core.Path.{_≡_, sym, _∙_}
+use mathlib.Core.Bool.{true, false}
+use lib.ListN.{length}
 use lib.Seq.{take-all}
-use Rattle.requests.specs.Kinds.{pointsLine}
-use borrow.Author.Tests.{eq-eqb, ne-eqb}
+use borrow.Author.Tests.{eqb-true}
+use Rattle.falcon_guidance.specs.State.{pointNumbers}
 use borrow.Author.Needs.{needs}
+use Rattle.requests.specs.Kinds.{listFields, isList, pointsLine}
 use Rattle.requests.proofs.kinds.points_line.Statement.{statement}
 use Rattle.requests.proofs.kinds.points_line.Tie as tie
 
+is-list-requires : tie.Need-is-list-requires
+is-list-requires c κs = search needs
+
 returns : tie.Need-returns
 unfolding pointsLine
-returns c = (simp (ne-eqb (length (c .before .args .ns .now)) (2 + 3 * getD (c .before .args .ns .now) 1 0) (λ e. omega arith)), tt)
-
-shared-slice-read-count : tie.Need-shared-slice-read-count
-shared-slice-read-count c = search needs
-
-cast-count : tie.Need-cast-count
-cast-count c = omega (arith, c .shared-slice-known .given 1)
-
-mul-if2 : tie.Need-mul-if2
-mul-if2 c = omega (arith, c .shared-slice-known .given 1)
-
-add-if2 : tie.Need-add-if2
-add-if2 c = omega (arith, c .shared-slice-known .given 1)
+returns c =
+    let ns = c .before .before .before .args .ns .now in
+    let is : isList pointNumbers ns ≡ true = sym (c .before .is-list .ensures) ∙ c .if1 .taken in
+    let long : length ns ≡ listFields pointNumbers ns = eqb-true (length ns) (listFields pointNumbers ns) is in
+    (simp (take-all (listFields pointNumbers ns) ns (omega arith), is), omega arith)
 
 returns-2 : tie.Need-returns-2
 unfolding pointsLine
-returns-2 c = (simp (ne-eqb _ _ (c .if2 .taken)), tt)
-
-returns-3 : tie.Need-returns-3
-unfolding pointsLine
-returns-3 c =
-    let ns = c .before .before .before .args .ns .now in
-    let is : length ns ≡ 2 + 3 * getD ns 1 0 = c .if2 .left in
-    (simp (take-all (2 + 3 * getD ns 1 0) ns (omega arith), eq-eqb _ _ is), omega arith)
+returns-2 c =
+    let is : isList pointNumbers (c .before .before .before .args .ns .now) ≡ false = sym (c .before .is-list .ensures) ∙ c .if1 .left in
+    (simp is, tt)
 
 pub points-line-spec : {M : Type 1} → statement M
-points-line-spec = tie.close (tie.spec returns shared-slice-read-count cast-count mul-if2 add-if2 returns-2 returns-3)
+points-line-spec = tie.close (tie.spec is-list-requires returns returns-2)

@@ -1,15 +1,18 @@
 -- By the buffer's length: refusal 9, or the line's step with its answer written.
+use Prim.Native.Nat.{ℕ}
 use mathlib.Core.Path.{refl, sym, ap, _∙_}
+use mathlib.Core.List.{List}
 use lib.ListN.{length}
+use lib.Seq.{length-take-le}
 use borrow.Author.Tests.{ltb-true, ltb-false}
+use Rattle.columns.specs.Line.{writtenOver}
 use Rattle.falcon_core.specs.Calls.{answerOf, refusedOf}
+use Rattle.requests.specs.Kinds.{answeredBy}
+use Rattle.requests.specs.Parse.{askedLine}
 use Rattle.requests.specs.ByLine.{needOf}
-use Rattle.requests.proofs.Buffer.{short-step, short-buffer, full-step, full-buffer}
-use Rattle.sheet.specs.declared.entry.LineAnswered.{LineAnswered}
-use Rattle.sheet.specs.declared.entry.LineReplied.{LineReplied}
+use Rattle.requests.proofs.Buffer.{short-step, short-buffer, full-step, full-reply}
 use Rattle.sheet.specs.Entry.{lineAnswered}
-use Rattle.sheet.specs.Many.{replyLine}
-use Rattle.sheet.proofs.Replies.{answered-is}
+use Rattle.sheet.proofs.Entries.{answered-is}
 use borrow.Author.Needs.{needs}
 use Rattle.sheet.proofs.entry.answer.Statement.{statement}
 use Rattle.sheet.proofs.entry.answer.Tie as tie
@@ -24,25 +27,36 @@ returns c =
     let h = ltb-true (length (a .out .now)) (needOf (a .line .now)) (sym (c .before .is-short .ensures) ∙ c .if1 .taken) in
     (sym (ap lineAnswered (short-step (a .s) (a .line .now) (a .out .now) h)), (short-buffer (a .s) (a .line .now) (a .out .now) h, refl))
 
-slice-aggregate-answer-full : tie.Need-slice-aggregate-answer-full
-slice-aggregate-answer-full c = search needs
+answer-numbers-requires : tie.Need-answer-numbers-requires
+answer-numbers-requires c κs = search needs
 
-answer-full-requires : tie.Need-answer-full-requires
-answer-full-requires c κs =
-    let a = c .before .before .before .before .before .before .args in
-    (search needs, ltb-false (length (a .out .now)) (needOf (a .line .now)) (sym (c .before .before .before .is-short .ensures) ∙ c .before .before .if1 .left))
+array-share-prefix-numbers : tie.Need-array-share-prefix-numbers
+array-share-prefix-numbers c = search needs
+
+slice-aggregate-write-numbers : tie.Need-slice-aggregate-write-numbers
+slice-aggregate-write-numbers c = sym (length-take-le _ _ (c .before .before .answer-numbers .ensures .among))
+
+write-numbers-requires : tie.Need-write-numbers-requires
+write-numbers-requires c κs = search needs
+
+array-read-t18 : tie.Need-array-read-t18
+array-read-t18 c = search needs
 
 same-length : tie.Need-same-length
 same-length c = search needs
 
 returns-2 : tie.Need-returns-2
-unfolding replyLine
 returns-2 c =
-    let a = c .before .before .before .before .before .before .before .before .before .before .before .args in
-    let h = ltb-false (length (a .out .now)) (needOf (a .line .now)) (sym (c .before .before .before .before .before .before .before .before .is-short .ensures) ∙ c .before .before .before .before .before .before .before .if1 .left) in
-    let call = c .before .before .before .before .answer-full in (
-      answered-is (call .result) _ (call .ensures .0) ∙ ap lineAnswered (full-step (a .s) (a .line .now) (a .out .now) h),
-      (call .ensures .1 .0 ∙ full-buffer (a .s) (a .line .now) (a .out .now) h, refl),
+    let a = c .before .before .before .before .before .before .before .before .before .before .before .before .args in
+    let h = ltb-false (length (a .out .now)) (needOf (a .line .now)) (sym (c .before .before .before .before .before .before .before .before .before .is-short .ensures) ∙ c .before .before .before .before .before .before .before .before .if1 .left) in
+    let replied = c .before .before .before .before .before .before .answer-numbers .ensures in (
+      answered-is (answeredBy (a .s) (askedLine (a .line .now))) _ _ _ replied ∙ ap lineAnswered (full-step (a .s) (a .line .now) (a .out .now) h),
+      (
+        c .before .before .before .write-numbers .ensures
+            ∙ ap (λ (ns : List ℕ). writtenOver ns (a .out .now)) (replied .numbers)
+            ∙ full-reply (a .s) (a .line .now) (a .out .now) h,
+        refl,
+      ),
     )
 
 pub answer-spec : {M : Type 1} → statement M
@@ -51,7 +65,10 @@ answer-spec =
     (tie.spec
     is-short-requires
     returns
-    slice-aggregate-answer-full
-    answer-full-requires
+    answer-numbers-requires
+    array-share-prefix-numbers
+    slice-aggregate-write-numbers
+    write-numbers-requires
+    array-read-t18
     same-length
     returns-2)

@@ -1,14 +1,15 @@
 use Prim.Native.Nat.{ℕ, _+_}
 use native.Mathlib.Omega.{arith}
 use mathlib.Core.Path.{_≡_, refl, sym, ap, _∙_}
-use mathlib.Core.List.{List}
+use mathlib.Core.List.{List, [], _∷_, _++_}
 use lib.ListN.{length}
+use lib.Seq.{length-take-le}
 use borrow.Author.Tests.{leb-true, leb-false}
+use Rattle.columns.specs.Field.{put}
 use Rattle.requests.specs.ByLine.{needOf}
-use Rattle.sheet.specs.declared.entry.LineReplied.{LineReplied}
-use Rattle.sheet.specs.Lines.{lastLine}
+use Rattle.sheet.specs.Lines.{newline, lastLine}
 use Rattle.sheet.specs.Many.{replyLine, fitting}
-use Rattle.sheet.proofs.Replies.{line-fits, all-line, over-none, last-none, last-short, last-answer}
+use Rattle.sheet.proofs.Replies.{reply-room, reply-line, reply-long, over-none, last-none, last-short, last-answer}
 use borrow.Author.Needs.{needs}
 use Rattle.sheet.proofs.many.answer_last.Statement.{statement}
 use Rattle.sheet.proofs.many.answer_last.Tie as tie
@@ -29,36 +30,32 @@ returns-2 c =
     let o = over-none (a .s) (fitting (a .s) (lastLine (a .input .now)) (a .out .now)) (a .out .now) (last-short (a .s) (a .input .now) (a .out .now) h) in
     (o .0, (o .1, refl))
 
-slice-aggregate-answer-at : tie.Need-slice-aggregate-answer-at
-slice-aggregate-answer-at c = search needs
+answer-numbers-requires : tie.Need-answer-numbers-requires
+answer-numbers-requires c κs = search needs
 
-answer-at-requires : tie.Need-answer-at-requires
-answer-at-requires c κs =
-    let a = c .before .before .before .before .before .before .before .args in
-    let h = leb-false (length (a .out .now)) (needOf (a .input .now)) (sym (c .before .before .before .lacks-room .ensures) ∙ c .before .before .if2 .left) in
-    (omega arith, (omega arith, (search needs, omega (arith, h, ap needOf (all-line (a .input .now))))))
+array-share-prefix-numbers : tie.Need-array-share-prefix-numbers
+array-share-prefix-numbers c = search needs
 
-add-result : tie.Need-add-result
-unfolding replyLine
-add-result c =
-    let a = c .before .before .before .before .before .before .before .before .before .before .before .before .args in
-    let h = leb-false (length (a .out .now)) (needOf (a .input .now)) (sym (c .before .before .before .before .before .before .before .before .lacks-room .ensures) ∙ c .before .before .before .before .before .before .before .if2 .left) in
-    let wide : c .before .before .before .before .answer-at .result .width ≡ length (replyLine (a .s) (a .input .now)) =
-    ap (λ (x : LineReplied). x .width) (c .before .before .before .before .answer-at .ensures .0) ∙ ap (λ (l : List ℕ). length (replyLine (a .s) l)) (all-line (a .input .now)) in
-    omega (arith, h, wide, line-fits (a .s) (a .input .now), c .before .before .before .before .before .before .before .before .before .before .before .before .good .1 .1 .0 .0)
+slice-aggregate-write-reply : tie.Need-slice-aggregate-write-reply
+slice-aggregate-write-reply c = sym (length-take-le _ _ (c .before .answer-numbers .ensures .among))
+
+write-reply-requires : tie.Need-write-reply-requires
+write-reply-requires c κs =
+    let a = c .before .before .before .before .before .before .before .before .before .args in
+    let h = leb-false (length (a .out .now)) (needOf (a .input .now)) (sym (c .before .before .before .before .before .lacks-room .ensures) ∙ c .before .before .before .before .if2 .left) in
+    omega (arith, h, reply-room (a .s) (a .input .now) _ (c .before .before .answer-numbers .ensures .numbers))
 
 same-length : tie.Need-same-length
 same-length c = search needs
 
 returns-3 : tie.Need-returns-3
-unfolding replyLine
 returns-3 c =
     let a = c .before .before .before .before .before .before .before .before .before .before .before .before .args in
-    let call = c .before .before .before .before .answer-at in
     let h = leb-false (length (a .out .now)) (needOf (a .input .now)) (sym (c .before .before .before .before .before .before .before .before .lacks-room .ensures) ∙ c .before .before .before .before .before .before .before .if2 .left) in
-    let wide : call .result .width + 1 ≡ length (replyLine (a .s) (a .input .now)) + 1 =
-    ap (λ (x : LineReplied). x .width + 1) (call .ensures .0) ∙ ap (λ (l : List ℕ). length (replyLine (a .s) l) + 1) (all-line (a .input .now)) in
-    let o = last-answer (a .s) (a .input .now) (a .out .now) (call .last .1 .1 .1 .1 .1 .0) (c .before .before .before .before .before .before .before .before .before .if1 .left) h (call .ensures .1) in
+    let is = c .before .before .before .before .before .answer-numbers .ensures .numbers in
+    let call = c .before .before .write-reply in
+    let o = last-answer (a .s) (a .input .now) (a .out .now) (call .last .1 .0) (c .before .before .before .before .before .before .before .before .before .if1 .left) h (call .ensures .1 ∙ ap (λ (l : List ℕ). put (a .out .now) 0 (l ++ (newline ∷ []))) (reply-line (a .s) (a .input .now) _ is)) in
+    let wide : call .result ≡ length (replyLine (a .s) (a .input .now)) + 1 = omega (arith, call .ensures .0, reply-long (a .s) (a .input .now) _ is) in
     (wide ∙ o .0, (o .1, refl))
 
 pub answer-last-spec : {M : Type 1} → statement M
@@ -68,8 +65,9 @@ answer-last-spec =
     returns
     lacks-room-requires
     returns-2
-    slice-aggregate-answer-at
-    answer-at-requires
-    add-result
+    answer-numbers-requires
+    array-share-prefix-numbers
+    slice-aggregate-write-reply
+    write-reply-requires
     same-length
     returns-3)

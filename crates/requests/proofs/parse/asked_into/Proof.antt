@@ -1,16 +1,16 @@
 use mathlib.Core.Path.{ap, _∙_}
 use native.Mathlib.Omega.{arith}
 use Rattle.requests.specs.Parse.{askedBy, askedLine}
-use Rattle.requests.proofs.Asking.{asked-read, read-some, asked-broken, counted, says-among}
+use Rattle.requests.proofs.Asking.{read-room, asked-read, read-some, asked-broken, counted, says-among}
 use borrow.Author.Needs.{needs}
-use Rattle.requests.proofs.parse.asked.Statement.{statement}
-use Rattle.requests.proofs.parse.asked.Tie as tie
+use Rattle.requests.proofs.parse.asked_into.Statement.{statement}
+use Rattle.requests.proofs.parse.asked_into.Tie as tie
 
 line-limit-requires : tie.Need-line-limit-requires
 line-limit-requires c κs = search needs
 
 read-line-requires : tie.Need-read-line-requires
-read-line-requires c κs = omega (arith, c .before .line-limit .ensures .1)
+read-line-requires c κs = search needs
 
 enum-known-count : tie.Need-enum-known-count
 enum-known-count c = search needs
@@ -23,7 +23,7 @@ same-length c = search needs
 
 returns : tie.Need-returns
 unfolding askedLine
-returns c = (asked-broken _ _ _ _ (c .before .before .before .before .read-line .ensures .0) (c .enum-told .given .1) ∙ ap askedBy (c .before .before .before .before .before .before .line-limit .ensures .0), tt)
+returns c = (asked-broken _ _ _ _ (c .before .before .before .before .read-line .ensures .0) (c .enum-told .given .1) ∙ ap askedBy (read-room _ _ _ (c .before .before .before .before .before .before .line-limit .ensures) (c .before .before .before .before .before .before .before .before .before .pre)), tt)
 
 slice-reshare-prefix-kind-of : tie.Need-slice-reshare-prefix-kind-of
 slice-reshare-prefix-kind-of c = counted _ _ _ (c .before .before .before .before .before .read-line .ensures .1) (c .before .count .given .1) .0
@@ -43,12 +43,12 @@ returns-2 c =
     says-among (c .kind-of .result) (c .before .before .before .before .before .before .before .read-line .last .1 .1 .0) (c .before .before .before .count .given .0 .0) _ (
       c .kind-of .ensures .0
           ∙ asked-read _ _ _ _ _ (c .before .before .before .before .before .before .before .read-line .ensures .0) (c .before .before .before .count .given .1)
-          ∙ ap askedBy (c .before .before .before .before .before .before .before .before .before .line-limit .ensures .0),
+          ∙ ap askedBy (read-room _ _ _ (c .before .before .before .before .before .before .before .before .before .line-limit .ensures) (c .before .before .before .before .before .before .before .before .before .before .before .before .pre)),
       c .kind-of .ensures .1,
     )
 
-pub asked-spec : {M : Type 1} → statement M
-asked-spec =
+pub asked-into-spec : {M : Type 1} → statement M
+asked-into-spec =
     tie.close
     (tie.spec
     line-limit-requires

@@ -1,0 +1,124 @@
+-- What the entries of a line leave. Assumes nothing.
+use Prim.Native.Nat.{ℕ, zero, suc, _+_, _*_, _≤_, _<_}
+use native.Mathlib.Omega.{arith}
+use mathlib.Core.Path.{_≡_, refl, sym, ap, _∙_}
+use mathlib.Core.Bool.{Bool}
+use mathlib.Core.List.{List, [], _∷_, _++_}
+use lib.ListN.{length, take, drop, getD, length-append}
+use lib.Seq.{length-take-le}
+use Rattle.falcon_guidance.specs.declared.state.Point.{Point}
+use Rattle.falcon_guidance.specs.declared.state.Legs.{Legs}
+use Rattle.falcon_failsafe.specs.declared.flight.FlightSupervisor.{FlightSupervisor}
+use Rattle.falcon_core.specs.declared.supervisor.Supervisor.{Supervisor}
+use Rattle.falcon_core.specs.declared.calls.Answer.{Answer}
+use Rattle.falcon_core.specs.declared.calls.Answered.{Answered}
+use Rattle.falcon_core.specs.declared.calls.FlightAnswered.{FlightAnswered}
+use Rattle.relay_fsm.specs.declared.Event.{Event}
+use Rattle.falcon_core.specs.Calls.{answerFields, numbersOf, reports, commands, legsIn, flightAfter, outputOf, noLegs, flightStepOf, besideOf, stepOf}
+use Rattle.falcon_core.proofs.FlightCalls.{tick-beside, report-beside, command-beside}
+use Rattle.falcon_core.proofs.Numbers.{numbers-count}
+use Rattle.requests.specs.declared.kinds.FlightCall.{FlightCall}
+use Rattle.requests.specs.declared.kinds.FlightCall.the-variants.{Ticks, Reports, Commands}
+use Rattle.requests.specs.Kinds.{flightAsks}
+use Rattle.requests.specs.ByLine.{replyNumbers}
+use Rattle.requests.proofs.Buffer.{reply-ten}
+use Rattle.sheet.specs.declared.entry.FlightReplied.{FlightReplied}
+use Rattle.sheet.specs.declared.entry.LineAnswered.{LineAnswered}
+use Rattle.sheet.specs.Entry.{lineAnswered, Replied, FlightLeft}
+use Rattle.sheet.proofs.Floats.{take-front}
+
+-- the state of its parts
+abbrev pub stateOf : FlightSupervisor → List Point → Bool → Bool → Supervisor
+stateOf f ps opened due = record { flight = f; waypoints = ps; opened = opened; «report_due» = due }
+
+-- ---- an answer's ten numbers at the front of an array
+
+pub front-ten : (a : Answer) (ns d : List ℕ) → ns ≡ numbersOf a ++ d → take answerFields ns ≡ numbersOf a
+front-ten a ns d e =
+    ap (take answerFields) e
+    ∙ ap (λ (n : ℕ). take n (numbersOf a ++ d)) (sym (numbers-count a))
+    ∙ take-front (numbersOf a) d
+
+front-long : (a : Answer) (ns d : List ℕ) → ns ≡ numbersOf a ++ d → answerFields ≤ length ns
+front-long a ns d e = omega (arith, ap length e, length-append (numbersOf a) d, numbers-count a)
+
+pub replied-ten : (a : Answered) (ns d : List ℕ) → ns ≡ numbersOf (a .answer) ++ d → Replied a (a .supervisor) ns answerFields
+replied-ten a ns d e =
+    record {
+      state = refl;
+      numbers = front-ten (a .answer) ns d e ∙ reply-ten a;
+      among = front-long (a .answer) ns d e;
+    }
+
+-- the same of equal parts
+pub replied-as :
+    (a b : Answered) (s t : Supervisor) (ns ms : List ℕ) (count n : ℕ) →
+    Replied a s ns count →
+    a ≡ b →
+    t ≡ s →
+    ms ≡ ns →
+    n ≡ count →
+    Replied b t ms n
+replied-as a b s t ns ms count n h ea es en ec =
+    record {
+      state = es ∙ h .state ∙ ap (λ (x : Answered). x .supervisor) ea;
+      numbers = ap (λ (k : ℕ). take k ms) ec ∙ ap (take count) en ∙ h .numbers ∙ ap replyNumbers ea;
+      among = omega (arith, h .among, ec, ap (λ (l : List ℕ). length l) en);
+    }
+
+-- ---- a tick, a report or a command
+
+-- reports and commands read no waypoint
+pub report-legs : (f : FlightSupervisor) (opened due : Bool) (l : Legs) (failed : Bool) → flightStepOf f opened due noLegs (reports failed) ≡ flightStepOf f opened due l (reports failed)
+unfolding flightStepOf flightAfter outputOf
+report-legs f opened due l failed = refl
+
+pub command-legs :
+    (f : FlightSupervisor) (opened due : Bool) (l : Legs) (ev : Event) (level low : Bool) →
+    flightStepOf f opened due noLegs (commands ev level low) ≡ flightStepOf f opened due l (commands ev level low)
+unfolding flightStepOf flightAfter outputOf
+command-legs f opened due l ev level low = refl
+
+module _ (s : Supervisor) where
+  abbrev parts : FlightCall → FlightAnswered
+  parts call = flightStepOf (s .flight) (s .opened) (s .«report_due») (legsIn s) (flightAsks call)
+
+  call-beside : (call : FlightCall) → besideOf s (parts call) ≡ stepOf s (flightAsks call)
+  call-beside (Ticks t) = tick-beside s t
+  call-beside (Reports failed) =
+      ap (besideOf s) (sym (report-legs (s .flight) (s .opened) (s .«report_due») (legsIn s) failed)) ∙ report-beside s failed
+  call-beside (Commands ev level low) =
+      ap (besideOf s) (sym (command-legs (s .flight) (s .opened) (s .«report_due») (legsIn s) ev level low)) ∙ command-beside s ev level low
+
+  -- the flight's entry leaves the waypoints
+  pub replied-flight :
+      (call : FlightCall) (r : FlightReplied) (ns : List ℕ) →
+      FlightLeft (parts call) r ns →
+      answerFields ≤ length ns →
+      Replied (stepOf s (flightAsks call)) (stateOf (r .flight) (s .waypoints) (s .opened) (r .«report_due»)) ns answerFields
+  replied-flight call r ns h room =
+      let left : stateOf (r .flight) (s .waypoints) (s .opened) (r .«report_due») ≡ besideOf s (parts call) .supervisor =
+      λ i. record { flight = h .flight i; waypoints = s .waypoints; opened = s .opened; «report_due» = h .due i } in
+      record {
+        state = left ∙ ap (λ (x : Answered). x .supervisor) (call-beside call);
+        numbers = h .numbers ∙ reply-ten (besideOf s (parts call)) ∙ ap replyNumbers (call-beside call);
+        among = room;
+      }
+
+-- ---- the refusal is an answer's first number
+
+take-first : (n : ℕ) (ns : List ℕ) (x : ℕ) (l : List ℕ) → take n ns ≡ x ∷ l → getD ns 0 0 ≡ x
+take-first zero ns x l e = let z : _≡_ {A = ℕ} 0 1 = cc in absurd (omega arith)
+take-first (suc n) [] x l e = let z : _≡_ {A = ℕ} 0 1 = cc in absurd (omega arith)
+take-first (suc n) (y ∷ ns) x l e = cc
+
+pub replied-refusal : (a : Answered) (s : Supervisor) (ns : List ℕ) (count : ℕ) → Replied a s ns count → getD ns 0 0 ≡ a .answer .refusal
+unfolding replyNumbers numbersOf
+replied-refusal a s ns count h = take-first count ns (a .answer .refusal) _ (h .numbers)
+
+-- so the state and the first number are what `answer` gives back
+pub answered-is :
+    (a : Answered) (s : Supervisor) (ns : List ℕ) (count : ℕ) →
+    Replied a s ns count →
+    _≡_ {A = LineAnswered} (record { supervisor = s; refusal = getD ns 0 0 }) (lineAnswered a)
+answered-is a s ns count h = λ i. record { supervisor = h .state i; refusal = replied-refusal a s ns count h i }

@@ -1,0 +1,94 @@
+// The waypoints of the active leg and of the next, by their places in the list: two are read, and the list is not copied.
+ghost use mathlib.Core.Path.{_≡_};
+ghost use Prim.Native.Nat.{_+_, _-_, min};
+ghost use Rattle.sheet.specs.Legs.{hereLeg, nextLeg, placeOf, heldAt, legsFrom};
+use falcon_guidance::state::Config;
+use falcon_guidance::state::Legs;
+use falcon_guidance::state::Mission;
+use falcon_guidance::state::Point;
+
+// The last leg, 0 where there is none.
+fn last_leg(m: Mission) -> u32
+    ensures { λ r. ⌜ r ≡ m .«wp_count» - 1 ⌝ }
+{
+    let count = m.wp_count;
+    if count == 0 {
+        return 0;
+    }
+    count - 1
+}
+
+// The active leg, at most the last.
+fn here_leg(m: Mission) -> u32
+    ensures { λ r. ⌜ r ≡ hereLeg m ⌝ }
+{
+    let last = last_leg(m);
+    if m.wp_index < last {
+        return m.wp_index;
+    }
+    last
+}
+
+// The leg after the active one, at most the last.
+fn next_leg(m: Mission) -> u32
+    ensures { λ r. ⌜ r ≡ nextLeg m ⌝ }
+{
+    let last = last_leg(m);
+    if m.wp_index < last {
+        return m.wp_index + 1;
+    }
+    last
+}
+
+// The place of a leg's waypoint, the first where the leg is beyond the places.
+fn place_of(leg: u32) -> usize
+    ensures { λ r. ⌜ r ≡ placeOf leg ⌝ }
+{
+    let at = leg as usize;
+    if at < Point::MAX_WAYPOINTS {
+        return at;
+    }
+    0
+}
+
+// The waypoint of a leg whose place holds this one, the origin beyond the places.
+fn held_at(leg: u32, held: Point) -> Point
+    ensures { λ r. ⌜ r ≡ heldAt leg held ⌝ }
+{
+    let at = leg as usize;
+    if at < Point::MAX_WAYPOINTS {
+        return held;
+    }
+    Point::origin()
+}
+
+// The place of the active leg's waypoint.
+pub(crate) fn here_place(m: Mission) -> usize
+    ensures { λ r. ⌜ r ≡ placeOf (hereLeg m) ⌝ }
+{
+    place_of(here_leg(m))
+}
+
+// The place of the next leg's waypoint.
+pub(crate) fn next_place(m: Mission) -> usize
+    ensures { λ r. ⌜ r ≡ placeOf (nextLeg m) ⌝ }
+{
+    place_of(next_leg(m))
+}
+
+// The waypoints of the active leg and of the next, whose places hold these; home where there is none.
+pub(crate) fn legs_from(c: Config, m: Mission, here: Point, next: Point) -> Legs
+    ensures { λ r. ⌜ r ≡ legsFrom c m here next ⌝ }
+{
+    if m.wp_count == 0 {
+        let home = c.home;
+        return Legs {
+            here: home,
+            next: home,
+        };
+    }
+    Legs {
+        here: held_at(here_leg(m), here),
+        next: held_at(next_leg(m), next),
+    }
+}
