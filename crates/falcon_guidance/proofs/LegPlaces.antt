@@ -18,13 +18,16 @@ use Rattle.falcon_guidance.proofs.Waypoints.{waypoint-within}
 use Rattle.falcon_guidance.specs.Legs.{hereLeg, nextLeg, placeOf, heldAt, legsFrom}
 
 -- a leg has a place
-pub place-below : (leg : ℕ) → placeOf leg < maxWaypoints
+place-below : (leg : ℕ) → placeOf leg < maxWaypoints
 unfolding placeOf
 place-below leg =
     elim (decLt leg maxWaypoints) [
       | yes h ↦ rw (lt-ltb leg maxWaypoints h) h
       | no q ↦ rw (le-ltb leg maxWaypoints (omega arith)) (lit≤ tt)
     ]
+
+pub place-at : (leg at : ℕ) → at ≡ placeOf leg → at < maxWaypoints
+place-at leg at e = omega (arith, place-below leg)
 
 beyond : (ps : List Point) (leg : ℕ) → length ps ≤ leg → origin ≡ waypointAtOf ps leg
 unfolding waypointAtOf
@@ -39,14 +42,19 @@ module _ (ps : List Point) (long : length ps ≡ maxWaypoints) where
         | no q ↦ rw (le-ltb leg maxWaypoints (omega arith)) (beyond ps leg (omega arith))
       ]
 
-  -- a tick reads of the list what these two places hold
-  pub legs-from : (c : Config) (m : Mission) → legsFrom c m (getD ps (placeOf (hereLeg m)) nowhere) (getD ps (placeOf (nextLeg m)) nowhere) ≡ legsOf c ps m
+  legs-held : (c : Config) (m : Mission) → legsFrom c m (getD ps (placeOf (hereLeg m)) nowhere) (getD ps (placeOf (nextLeg m)) nowhere) ≡ legsOf c ps m
   unfolding legsFrom legsOf currentWaypointOf legWaypointOf
-  legs-from c m = rw (held-is (hereLeg m), held-is (nextLeg m)) refl
+  legs-held c m = rw (held-is (hereLeg m), held-is (nextLeg m)) refl
 
-  pub legs-at :
-      (c : Config) (m : Mission) (a b : ℕ) →
-      a ≡ placeOf (hereLeg m) →
-      b ≡ placeOf (nextLeg m) →
-      legsFrom c m (getD ps a nowhere) (getD ps b nowhere) ≡ legsOf c ps m
-  legs-at c m a b ea eb = rw (ea, eb) (legs-from c m)
+  -- a tick reads of the list what these two places hold
+  pub legs-are :
+      (c : Config) (m : Mission) (i j : ℕ) (l : Legs) →
+      i ≡ placeOf (hereLeg m) →
+      j ≡ placeOf (nextLeg m) →
+      l ≡ legsFrom c m (getD ps i nowhere) (getD ps j nowhere) →
+      l ≡ legsOf c ps m
+  legs-are c m i j l here next e =
+      e
+      ∙ ap (λ (k : ℕ). legsFrom c m (getD ps k nowhere) (getD ps j nowhere)) here
+      ∙ ap (λ (k : ℕ). legsFrom c m (getD ps (placeOf (hereLeg m)) nowhere) (getD ps k nowhere)) next
+      ∙ legs-held c m

@@ -84,11 +84,11 @@ module _ (s : Supervisor) where
   parts call = flightStepOf (s .flight) (s .opened) (s .«report_due») (legsIn s) (flightAsks call)
 
   call-beside : (call : FlightCall) → besideOf s (parts call) ≡ stepOf s (flightAsks call)
-  call-beside (Ticks t) = tick-beside s t
+  call-beside (Ticks t) = tick-beside s t (legsIn s) (parts (Ticks t)) refl refl
   call-beside (Reports failed) =
-      ap (besideOf s) (sym (report-legs (s .flight) (s .opened) (s .«report_due») (legsIn s) failed)) ∙ report-beside s failed
+      report-beside s failed (parts (Reports failed)) (sym (report-legs (s .flight) (s .opened) (s .«report_due») (legsIn s) failed))
   call-beside (Commands ev level low) =
-      ap (besideOf s) (sym (command-legs (s .flight) (s .opened) (s .«report_due») (legsIn s) ev level low)) ∙ command-beside s ev level low
+      command-beside s ev level low (parts (Commands ev level low)) (sym (command-legs (s .flight) (s .opened) (s .«report_due») (legsIn s) ev level low))
 
   -- the flight's entry leaves the waypoints
   pub replied-flight :

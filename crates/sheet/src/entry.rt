@@ -23,7 +23,7 @@ use falcon_core::calls::flight_tick;
 use falcon_core::calls::refused;
 use falcon_core::supervisor::Supervisor;
 use falcon_failsafe::flight::FlightSupervisor;
-use falcon_guidance::mission::legs;
+use falcon_guidance::legs::legs;
 use falcon_guidance::state::Legs;
 use falcon_guidance::state::Point;
 use falcon_guidance::state::Zone;

@@ -1,9 +1,9 @@
+use Prim.Native.Nat.{_<_}
 use native.Mathlib.Omega.{arith}
-use mathlib.Core.Path.{_≡_, _∙_}
+use mathlib.Core.Path.{_≡_}
 use lib.ListN.{length}
 use Rattle.falcon_guidance.specs.State.{maxWaypoints}
-use Rattle.falcon_guidance.specs.Legs.{hereLeg, nextLeg}
-use Rattle.falcon_guidance.proofs.LegPlaces.{place-below, legs-at}
+use Rattle.falcon_guidance.proofs.LegPlaces.{place-at, legs-are}
 use borrow.Author.Needs.{needs}
 use Rattle.falcon_guidance.proofs.legs.legs.Statement.{statement}
 use Rattle.falcon_guidance.proofs.legs.legs.Tie as tie
@@ -15,16 +15,16 @@ next-place-requires : tie.Need-next-place-requires
 next-place-requires c κs = search needs
 
 mul-legs-from : tie.Need-mul-legs-from
-mul-legs-from c = omega (arith, place-below (hereLeg (c .before .before .args .m)), c .before .here-place .ensures)
+mul-legs-from c = let below : c .before .here-place .result < maxWaypoints = place-at _ _ (c .before .here-place .ensures) in omega arith
 
 array-copy-out-legs-from : tie.Need-array-copy-out-legs-from
-array-copy-out-legs-from c = omega (arith, place-below (hereLeg (c .before .before .args .m)), c .before .here-place .ensures)
+array-copy-out-legs-from c = place-at _ _ (c .before .here-place .ensures)
 
 mul-legs-from-2 : tie.Need-mul-legs-from-2
-mul-legs-from-2 c = omega (arith, place-below (nextLeg (c .before .before .before .args .m)), c .before .next-place .ensures)
+mul-legs-from-2 c = let below : c .before .next-place .result < maxWaypoints = place-at _ _ (c .before .next-place .ensures) in omega arith
 
 array-copy-out-legs-from-2 : tie.Need-array-copy-out-legs-from-2
-array-copy-out-legs-from-2 c = omega (arith, place-below (nextLeg (c .before .before .before .args .m)), c .before .next-place .ensures)
+array-copy-out-legs-from-2 c = place-at _ _ (c .before .next-place .ensures)
 
 legs-from-requires : tie.Need-legs-from-requires
 legs-from-requires c κs = search needs
@@ -32,7 +32,7 @@ legs-from-requires c κs = search needs
 returns : tie.Need-returns
 returns c =
     let long : length (c .before .before .before .before .before .args .t2) ≡ maxWaypoints = search needs in
-    c .legs-from .ensures ∙ legs-at (c .before .before .before .before .before .args .t2) long (c .before .before .before .before .before .args .c) (c .before .before .before .before .before .args .m) _ _ (c .before .before .before .before .here-place .ensures) (c .before .before .before .next-place .ensures)
+    legs-are (c .before .before .before .before .before .args .t2) long (c .before .before .before .before .before .args .c) (c .before .before .before .before .before .args .m) _ _ _ (c .before .before .before .before .here-place .ensures) (c .before .before .before .next-place .ensures) (c .legs-from .ensures)
 
 pub legs-spec : {M : Type 1} → statement M
 legs-spec =

@@ -23,7 +23,7 @@ use Rattle.sheet.proofs.LinesTurns.{Going, going-first, going-more, goi
 use Rattle.sheet.proofs.LinesFit.{Fitted, fitted-first, fits-next, fits-last}
 use Rattle.sheet.proofs.Replies.{line-fits, reply-room, reply-line, reply-long, lines-progress, lines-buffer}
 use Rattle.sheet.proofs.Entries.{stateOf, replied-as, replied-flight}
-use Rattle.sheet.proofs.LegPlaces.{place-at, legs-are}
+use Rattle.falcon_guidance.proofs.LegPlaces.{place-at, legs-are}
 use borrow.Author.Needs.{needs}
 use Rattle.sheet.proofs.many.answer_lines.Statement.{statement}
 use Rattle.sheet.proofs.many.answer_lines.Tie as tie
