@@ -4,7 +4,7 @@ use mathlib.Core.Bool.{Bool, true, false, cond}
 use mathlib.Core.Option.{Option, none, some}
 use mathlib.Core.Path.{_≡_, refl}
 use lib.Dec.{eqb·suc-zero}
-use Rattle.falcon_core.specs.declared.state.Supervisor.{Supervisor}
+use Rattle.falcon_core.specs.declared.supervisor.Supervisor.{Supervisor}
 use Rattle.falcon_core.specs.declared.calls.Answered.{Answered}
 use Rattle.falcon_core.specs.Calls.{Request, refusalOf, legsIn, afterOf, outputOf, answerOf, refusedOf, acceptedOf, stepOf}
 use Rattle.falcon_core.proofs.Answers.{step-refused, step-accepted}

@@ -16,11 +16,13 @@ use Rattle.relay_fsm.proofs.Finite.{isMode→eq, eq→isMode}
 use denote.Floats.{is-true}
 use Rattle.relay_batt.specs.declared.battery.Battery.{Battery}
 use Rattle.relay_batt.proofs.Stays.{critical-stays, critical-shown}
+use Rattle.falcon_guidance.specs.declared.state.Config.{Config}
 use Rattle.falcon_guidance.specs.declared.state.Tick.{Tick}
-use Rattle.falcon_core.specs.declared.state.Supervisor.{Supervisor}
+use Rattle.falcon_guidance.specs.Geometry.{heightOf}
+use Rattle.falcon_core.specs.declared.supervisor.Supervisor.{Supervisor}
 use Rattle.falcon_core.specs.declared.calls.Answered.{Answered}
 use Rattle.falcon_failsafe.specs.Failsafe.{tiltedOf, runawayEnough}
-use Rattle.falcon_flight.specs.Milestone.{heightOf, nearGroundOf}
+use Rattle.falcon_flight.specs.Milestone.{nearGroundOf}
 use Rattle.falcon_flight.specs.Tick.{tickOf}
 use Rattle.falcon_core.specs.Land.{landedOf, throughLandOf}
 use Rattle.falcon_core.specs.Calls.{Request, opens, ticks, reports, commands, plans, legsIn, flightAfter, afterOf, outputOf}
@@ -36,9 +38,9 @@ use Rattle.call_lists.proofs.PlaceHolds.{run, Holding, refused-mode, ac
 -- ---- the rank rule
 
 -- height under 0.15 m, as the tick tests it
-ground-is : (t : Tick) → nearGroundOf t ≡ underGround t
+ground-is : (c : Config) (t : Tick) → nearGroundOf c t ≡ underGround t
 unfolding nearGroundOf heightOf underGround
-ground-is t = refl
+ground-is c t = refl
 
 -- a tick with height under 0.15 m that goes to Disarmed through Land
 record Touched (s : Supervisor) (n : Mode) (k : Option Request) : Type 0 where
@@ -56,7 +58,7 @@ unfolding afterOf flightAfter
 rank-accepted s (opens o) h = absurd h
 rank-accepted s (ticks t) h =
     ⊎-elim inl
-    (λ u. inr (record { tick = t; is-tick = refl; low = subst T (ground-is t) (u .0); disarmed = u .1; through-land = u .2 }))
+    (λ u. inr (record { tick = t; is-tick = refl; low = subst T (ground-is (s .flight .config) t) (u .0); disarmed = u .1; through-land = u .2 }))
     (tick-rank (s .flight) (legsIn s) t)
 rank-accepted s (reports failed) h = inl (report-rank (s .flight) failed)
 rank-accepted s (commands ev level low) h = absurd h

@@ -23,14 +23,14 @@ use Rattle.relay_batt.specs.Config.{forOpeningVoltsOf}
 use Rattle.relay_batt.proofs.Stays.{critical-shown, opened-state, opened-flags, none-flags}
 use Rattle.falcon_guidance.specs.declared.state.Config.{Config}
 use Rattle.falcon_guidance.specs.declared.state.Tick.{Tick}
-use Rattle.falcon_failsafe.specs.declared.state.Counts.{Counts}
-use Rattle.falcon_core.specs.declared.state.Supervisor.{Supervisor}
-use Rattle.falcon_failsafe.specs.declared.state.FlightSupervisor.{FlightSupervisor}
+use Rattle.falcon_failsafe.specs.declared.flight.Counts.{Counts}
+use Rattle.falcon_core.specs.declared.supervisor.Supervisor.{Supervisor}
+use Rattle.falcon_failsafe.specs.declared.flight.FlightSupervisor.{FlightSupervisor}
 use Rattle.falcon_core.specs.declared.calls.Answered.{Answered}
 use Rattle.falcon_core.specs.declared.calls.Output.{Output}
 use Rattle.falcon_guidance.specs.State.{zerof}
-use Rattle.falcon_failsafe.specs.State.{openedOf}
-use Rattle.falcon_core.specs.State.{unopened}
+use Rattle.falcon_failsafe.specs.Flight.{openedOf}
+use Rattle.falcon_core.specs.Supervisor.{unopened}
 use Rattle.falcon_failsafe.specs.Failsafe.{tiltedOf, runawayEnough, reportedOf}
 use Rattle.falcon_flight.specs.Tick.{tickOf}
 use Rattle.falcon_core.specs.Calls.{Request, opens, ticks, reports, commands, plans, dueAfter, refusalOf, legsIn, flightAfter, waypointsAfter, afterOf, outputOf, answerOf, refusedOf, acceptedOf}

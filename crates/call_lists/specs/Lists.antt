@@ -10,9 +10,9 @@ use Rattle.relay_batt.specs.declared.battery.Battery.{Battery}
 use Rattle.relay_batt.specs.Battery.{updateOf}
 use Rattle.falcon_guidance.specs.declared.state.Config.{Config}
 use Rattle.falcon_guidance.specs.declared.state.Tick.{Tick}
-use Rattle.falcon_core.specs.declared.state.Supervisor.{Supervisor}
+use Rattle.falcon_core.specs.declared.supervisor.Supervisor.{Supervisor}
 use Rattle.falcon_core.specs.declared.calls.Answered.{Answered}
-use Rattle.falcon_core.specs.State.{unopened}
+use Rattle.falcon_core.specs.Supervisor.{unopened}
 use Rattle.falcon_core.specs.Calls.{Request, opens, ticks, reports, commands, plans, startOf, stepOf}
 use Rattle.requests.specs.Kinds.{Asked, refuses, asks}
 use Rattle.requests.specs.ByLine.{askedWith, lineStep}

@@ -5,7 +5,7 @@ ghost use mathlib.Core.Path.{_≡_};
 ghost use lib.ListN.{length};
 ghost use Rattle.sheet.specs.Lines.{keptWidth, whole, joined, statesAfter};
 ghost use Rattle.sheet.specs.Many.{replyMost, afterLine};
-use falcon_core::state::Supervisor;
+use falcon_core::supervisor::Supervisor;
 use libc::STDIN_FILENO;
 use libc::STDOUT_FILENO;
 use sheet::lines::keep;

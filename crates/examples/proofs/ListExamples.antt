@@ -26,18 +26,18 @@ use Rattle.relay_batt.specs.Estimator.{noneOf, shownOf, newOf, resetOf, consume
 use Rattle.relay_batt.specs.Latch.{tripOf}
 use Rattle.falcon_core.specs.Calls.{shapeRefusal, sequenceRefusal, stateRefusal, refusalOf, commandedBy, startOf, startPoints, plannedOf, flightAfter, waypointsAfter, afterOf, outputOf, answerOf, refusedOf, acceptedOf, stepOf, numbersOf}
 use Rattle.falcon_failsafe.specs.Failsafe.{clearedOf, breachOf, breachGives, breachedOf, tiltedOf, runawayEnough, runawayCounted, runawayGives, runawayOf, gustyOf, windEnough, windCounted, windGives, windOf, reportedOf}
-use Rattle.falcon_guidance.specs.Geometry.{lengthOf, distanceOf}
+use Rattle.falcon_guidance.specs.Geometry.{lengthOf, distanceOf, heightOf}
 use Rattle.falcon_hold.specs.Hold.{horizSpeedOf, brakePointOf, enteredOf, restOf as holdRestOf, brakedOf, leftOf, keptOf, heldOf}
-use Rattle.falcon_flight.specs.Milestone.{heightOf, highOf, nearHomeOf, nearGroundOf, distance3Of, arrivedOf, milestoneGives, legOf, advancedOf, milestoneOf}
+use Rattle.falcon_flight.specs.Milestone.{highOf, nearHomeOf, nearGroundOf, distance3Of, arrivedOf, milestoneGives, legOf, advancedOf, milestoneOf}
 use Rattle.falcon_guidance.specs.Mission.{waypointAdmissibleOf, pointAtOf, triedOf, allAdmissibleOf, storedOf, loadedOf, loadedPointsOf, waypointAtOf, legWaypointOf, currentWaypointOf, legsOf}
 use Rattle.falcon_failsafe.specs.Preflight.{outsideGeofenceOf, geofenceSaneOf, navRowsOf, integrityRowsOf, readinessRowsOf, updatePreflightOf, escTelemetryOf}
 use Rattle.falcon_flight.specs.Setpoint.{landingOf, setpointOf, commandedOf}
-use Rattle.falcon_failsafe.specs.State.{openedOf as stateOpenedOf}
-use Rattle.falcon_core.specs.State.{unopened}
+use Rattle.falcon_failsafe.specs.Flight.{openedOf as stateOpenedOf}
+use Rattle.falcon_core.specs.Supervisor.{unopened}
 use Rattle.falcon_flight.specs.Tick.{checkedOf, poweredOf, telemetryOf, sensedOf, afterBreach, afterRunaway, afterWind, afterMilestone, holdingOf, answeredOf, endedOf, tickOf, givenOf}
 use Rattle.falcon_guidance.specs.Zones.{goalOf, bearingOf, alongOf, perpOf, obstructsOf, threatensOf, tangentOf, urgencyOf, ringOf, deflectedOf, aroundOf, aroundAllOf, avoidOf, zoneAtOf, keptOf as zonesKeptOf, storedZonesOf, loadedZonesOf}
 use Rattle.requests.specs.ByLine.{needFields, needOf, extraOf, replyNumbers, askedWith, lineStep, replyOf, bufferAfter}
-use Rattle.requests.specs.Line.{limitFields, readingLine, askedLine}
+use Rattle.requests.specs.Parse.{limitFields, readingLine, askedLine}
 use Rattle.columns.specs.Field.{inRange, digits, start as fieldStart, spaced, readField, kindOf, column, columns, fieldOf, put}
 use Rattle.requests.specs.Kinds.{openingFrom, openingLine, readingFrom, batteryOk, tickFrom, tickOk, tickLine, reportLine, commandLine, pointsLine, zonesLine, requestOf}
 use Rattle.columns.specs.Line.{onto, before, fields, lengthOk, readWithin, lineOf, readingOf}

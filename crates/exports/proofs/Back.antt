@@ -26,7 +26,7 @@ use Rattle.exports.specs.Numbers.{flag}
 use Rattle.exports.specs.Modes.{modeAt}
 use Rattle.exports.specs.Policy.{actionAt}
 use Rattle.exports.specs.Checks.{checkAt}
-use Rattle.exports.specs.Battery.{size, bits, configFrom, latchFrom, estimatorFrom, stateFrom, batteryFrom, configNumbers, estimatorNumbers, stateNumbers, silenceNumbers, batteryNumbers, storedOf}
+use Rattle.exports.specs.Batt.{size, bits, configFrom, latchFrom, estimatorFrom, stateFrom, batteryFrom, configNumbers, estimatorNumbers, stateNumbers, silenceNumbers, batteryNumbers, storedOf}
 
 pub mode-back : (m : Mode) → modeAt (modeNumber m) ≡ m
 unfolding modeAt

@@ -9,7 +9,7 @@ use Rattle.relay_batt.specs.declared.config.BattConfig.{BattConfig}
 use Rattle.relay_batt.specs.declared.estimator.BattState.{BattState}
 use Rattle.relay_batt.specs.declared.estimator.BatteryEstimator.{BatteryEstimator}
 use Rattle.relay_batt.specs.declared.battery.Battery.{Battery}
-use Rattle.exports.specs.Battery.{configNumbers, estimatorNumbers, stateNumbers, silenceNumbers, batteryNumbers, size, shortNumber, storedOf}
+use Rattle.exports.specs.Batt.{configNumbers, estimatorNumbers, stateNumbers, silenceNumbers, batteryNumbers, size, shortNumber, storedOf}
 use Rattle.exports.proofs.Sets.{sets-behind, put-run}
 
 config-end : (c : BattConfig) → 0 + length (configNumbers c) ≡ 8

@@ -2,4 +2,4 @@ pub mod Numbers
 pub mod Modes
 pub mod Policy
 pub mod Checks
-pub mod Battery
+pub mod Batt

@@ -1,6 +1,6 @@
 // `extern "C"` functions for the harness: numbers and slices of numbers, a float as its bits, a flag as 0 or 1.
 
-pub mod battery;
+pub mod batt;
 pub mod checks;
 pub mod floats;
 pub mod modes;

@@ -11,23 +11,24 @@ use lib.Ieee.{Float}
 use Rattle.falcon_guidance.specs.declared.state.Point.{Point}
 use Rattle.falcon_guidance.specs.declared.state.Legs.{Legs}
 use Rattle.falcon_guidance.specs.declared.state.Tick.{Tick}
-use Rattle.falcon_core.specs.declared.state.Supervisor.{Supervisor}
+use Rattle.falcon_core.specs.declared.supervisor.Supervisor.{Supervisor}
 use Rattle.falcon_flight.specs.declared.tick.Ticked.{Ticked}
 use Rattle.falcon_core.specs.declared.calls.Output.the-variants.{Nothing, Ticks}
 use Rattle.falcon_guidance.specs.declared.state.Mission.{Mission}
-use Rattle.falcon_failsafe.specs.State.{withMission, withZones}
+use Rattle.falcon_failsafe.specs.Flight.{withMission, withZones}
+use Rattle.falcon_guidance.specs.State.{pointNumbers, zoneNumbers}
 use Rattle.falcon_guidance.specs.Mission.{noPoints, triedOf, allAdmissibleOf, loadedOf, loadedPointsOf}
 use Rattle.falcon_guidance.specs.declared.state.Zones.{Zones}
 use Rattle.falcon_guidance.specs.Zones.{loadedZonesOf}
 use Rattle.falcon_flight.specs.Tick.{tickOf}
 use Rattle.relay_fsm.specs.declared.Event.{Event}
-use Rattle.falcon_failsafe.specs.declared.state.FlightSupervisor.{FlightSupervisor}
-use Rattle.falcon_failsafe.specs.declared.state.Opening.{Opening}
-use Rattle.falcon_failsafe.specs.State.{openedOf}
+use Rattle.falcon_failsafe.specs.declared.flight.FlightSupervisor.{FlightSupervisor}
+use Rattle.falcon_failsafe.specs.declared.flight.Opening.{Opening}
+use Rattle.falcon_failsafe.specs.Flight.{openedOf}
 use Rattle.falcon_failsafe.specs.Failsafe.{reportedOf}
 use Rattle.falcon_core.specs.Calls.{Request, opens, ticks, reports, commands, plans, points, zones, miscounted, masksTooLarge, isOpening, isReport}
 use Rattle.falcon_core.specs.Refusals.{wrongCount, outOfRange, inadmissible}
-use Rattle.falcon_core.specs.Calls.{commandedBy, dueAfter, shapeRefusal, sequenceRefusal, stateRefusal, refusalOf, legsIn, startOf, startPoints, plannedOf, flightAfter, waypointsAfter, outputOf, afterOf, refusedOf, acceptedOf, stepOf}
+use Rattle.falcon_core.specs.Calls.{commandedBy, dueAfter, shapeRefusal, sequenceRefusal, stateRefusal, refusalOf, legsIn, startOf, startPoints, plannedOf, flightAfter, waypointsAfter, outputOf, afterOf, refusedOf, acceptedOf, stepOf, withFlight}
 
 -- a refusal that fits is answered and keeps the state
 pub step-refused : (s : Supervisor) (r : Request) (n : ℕ) → refusalOf s r ≡ suc n → stepOf s r ≡ refusedOf s (suc n)
@@ -61,24 +62,24 @@ module _ (s : Supervisor) (r : Request) where
   sequence-refused (suc n) h i e q = sym (step-refused s r n (rw (h, i, ← e)))
 
 -- a list is counted right
-points-shape : (l : List Float) → length l % 3 ≡ 0 → shapeRefusal (plans (points l)) ≡ 0
+points-shape : (l : List Float) → length l % pointNumbers ≡ 0 → shapeRefusal (plans (points l)) ≡ 0
 unfolding shapeRefusal
-points-shape l c = rw (eq-eqb (length l % 3) 0 c)
+points-shape l c = rw (eq-eqb (length l % pointNumbers) 0 c)
 
-zones-shape : (l : List Float) → length l % 4 ≡ 0 → shapeRefusal (plans (zones l)) ≡ 0
+zones-shape : (l : List Float) → length l % zoneNumbers ≡ 0 → shapeRefusal (plans (zones l)) ≡ 0
 unfolding shapeRefusal
-zones-shape l c = rw (eq-eqb (length l % 4) 0 c)
+zones-shape l c = rw (eq-eqb (length l % zoneNumbers) 0 c)
 
 module _ (s : Supervisor) where
-  pub points-miscounted : (l : List Float) → (length l % 3 ≡ 0 → ⊥) → refusedOf s wrongCount ≡ stepOf s (plans (points l))
-  points-miscounted l q = count-refused s (plans (points l)) (ap not (ne-eqb (length l % 3) 0 q))
+  pub points-miscounted : (l : List Float) → (length l % pointNumbers ≡ 0 → ⊥) → refusedOf s wrongCount ≡ stepOf s (plans (points l))
+  points-miscounted l q = count-refused s (plans (points l)) (ap not (ne-eqb (length l % pointNumbers) 0 q))
 
-  pub zones-miscounted : (l : List Float) → (length l % 4 ≡ 0 → ⊥) → refusedOf s wrongCount ≡ stepOf s (plans (zones l))
-  zones-miscounted l q = count-refused s (plans (zones l)) (ap not (ne-eqb (length l % 4) 0 q))
+  pub zones-miscounted : (l : List Float) → (length l % zoneNumbers ≡ 0 → ⊥) → refusedOf s wrongCount ≡ stepOf s (plans (zones l))
+  zones-miscounted l q = count-refused s (plans (zones l)) (ap not (ne-eqb (length l % zoneNumbers) 0 q))
 
   pub points-unsequenced :
       (l : List Float) (n : ℕ) →
-      length l % 3 ≡ 0 →
+      length l % pointNumbers ≡ 0 →
       n ≡ sequenceRefusal (s .opened) (s .«report_due») false →
       (n ≡ 0 → ⊥) →
       refusedOf s n ≡ stepOf s (plans (points l))
@@ -86,7 +87,7 @@ module _ (s : Supervisor) where
 
   pub zones-unsequenced :
       (l : List Float) (n : ℕ) →
-      length l % 4 ≡ 0 →
+      length l % zoneNumbers ≡ 0 →
       n ≡ sequenceRefusal (s .opened) (s .«report_due») false →
       (n ≡ 0 → ⊥) →
       refusedOf s n ≡ stepOf s (plans (zones l))
@@ -95,7 +96,7 @@ module _ (s : Supervisor) where
   pub point-refused :
       (l : List Float) (ok : Bool) →
       ok ≡ allAdmissibleOf (s .flight .config) l (triedOf l) →
-      length l % 3 ≡ 0 →
+      length l % pointNumbers ≡ 0 →
       sequenceRefusal (s .opened) (s .«report_due») false ≡ 0 →
       not ok ≡ true →
       refusedOf s inadmissible ≡ stepOf s (plans (points l))
@@ -125,10 +126,10 @@ pub points-accepted :
     m ≡ loadedOf l →
     ps ≡ loadedPointsOf l →
     ok ≡ allAdmissibleOf (s .flight .config) l (triedOf l) →
-    length l % 3 ≡ 0 →
+    length l % pointNumbers ≡ 0 →
     sequenceRefusal (s .opened) (s .«report_due») false ≡ 0 →
     not ok ≡ false →
-    acceptedOf (record { flight = withMission (s .flight) m; waypoints = ps; opened = s .opened; «report_due» = s .«report_due» }) Nothing ≡ stepOf s (plans (points l))
+    acceptedOf (withFlight s (withMission (s .flight) m) ps (s .«report_due»)) Nothing ≡ stepOf s (plans (points l))
 unfolding refusalOf stateRefusal afterOf flightAfter waypointsAfter plannedOf outputOf
 points-accepted s l m ps ok em ep eo c q b =
     let a : allAdmissibleOf (s .flight .config) l (triedOf l) ≡ true = sym eo ∙ not-false ok b in
@@ -140,9 +141,9 @@ points-accepted s l m ps ok em ep eo c q b =
 pub zones-accepted :
     (s : Supervisor) (l : List Float) (z : Zones) →
     z ≡ loadedZonesOf l →
-    length l % 4 ≡ 0 →
+    length l % zoneNumbers ≡ 0 →
     sequenceRefusal (s .opened) (s .«report_due») false ≡ 0 →
-    acceptedOf (record { flight = withZones (s .flight) z; waypoints = s .waypoints; opened = s .opened; «report_due» = s .«report_due» }) Nothing ≡ stepOf s (plans (zones l))
+    acceptedOf (withFlight s (withZones (s .flight) z) (s .waypoints) (s .«report_due»)) Nothing ≡ stepOf s (plans (zones l))
 unfolding refusalOf stateRefusal afterOf flightAfter waypointsAfter plannedOf outputOf
 zones-accepted s l z ez c q =
     let h : refusalOf s (plans (zones l)) ≡ 0 = rw (zones-shape l c, q) in

@@ -6,12 +6,12 @@ use Rattle.relay_batt.specs.declared.battery.Battery.{Battery}
 use Rattle.relay_batt.specs.Config.{capacityOf, capacityMah, forOpeningVoltsOf}
 use Rattle.relay_batt.specs.Sound.{Sound as SoundBattery, InBounds}
 use Rattle.relay_batt.proofs.Sound.{update-cfg, opened-cfg, capacity-opening}
-use Rattle.falcon_failsafe.specs.declared.state.FlightSupervisor.{FlightSupervisor}
-use Rattle.falcon_core.specs.declared.state.Supervisor.{Supervisor}
-use Rattle.falcon_failsafe.specs.State.{openedOf}
-use Rattle.falcon_core.specs.State.{unopened}
+use Rattle.falcon_failsafe.specs.declared.flight.FlightSupervisor.{FlightSupervisor}
+use Rattle.falcon_core.specs.declared.supervisor.Supervisor.{Supervisor}
+use Rattle.falcon_failsafe.specs.Flight.{openedOf}
+use Rattle.falcon_core.specs.Supervisor.{unopened}
 use Rattle.falcon_core.specs.Calls.{Request, Planning, opens, ticks, reports, commands, plans, points, zones, commandedBy, refusalOf, legsIn, startOf, plannedOf, flightAfter, afterOf}
-use Rattle.falcon_core.specs.Sound.{runOf}
+use Rattle.falcon_core.specs.SoundState.{runOf}
 use Rattle.falcon_core.proofs.Refused.{run-keeps}
 use Rattle.falcon_core.proofs.Parts.{reported-keeps}
 use Rattle.falcon_core.proofs.Stages.{tick-config, tick-battery}

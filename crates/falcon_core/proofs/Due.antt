@@ -9,15 +9,15 @@ use Rattle.relay_fsm.specs.declared.Mode.the-variants.{Disarmed, Armed, Takeoff
 use Rattle.relay_fsm.specs.Mode.{isAirborneOf}
 use Rattle.falcon_guidance.specs.declared.state.Legs.{Legs}
 use Rattle.falcon_guidance.specs.declared.state.Tick.{Tick}
-use Rattle.falcon_failsafe.specs.declared.state.FlightSupervisor.{FlightSupervisor}
-use Rattle.falcon_core.specs.declared.state.Supervisor.{Supervisor}
+use Rattle.falcon_failsafe.specs.declared.flight.FlightSupervisor.{FlightSupervisor}
+use Rattle.falcon_core.specs.declared.supervisor.Supervisor.{Supervisor}
 use Rattle.falcon_flight.specs.declared.tick.TickAnswer.{TickAnswer}
 use Rattle.falcon_flight.specs.declared.tick.TickAnswer.the-variants.{MotorsOff, Setpoint}
-use Rattle.falcon_core.specs.State.{unopened}
+use Rattle.falcon_core.specs.Supervisor.{unopened}
 use Rattle.falcon_flight.specs.Setpoint.{motorsOffOf}
 use Rattle.falcon_flight.specs.Tick.{afterMilestone, holdingOf, endedOf, tickOf}
 use Rattle.falcon_core.specs.Calls.{Request, opens, ticks, reports, commands, plans, dueAfter, reportDueAfter, refusalOf, legsIn, flightAfter, afterOf, outputOf, answerOf, acceptedOf, stepOf}
-use Rattle.falcon_core.specs.Sound.{runOf}
+use Rattle.falcon_core.specs.SoundState.{runOf}
 use Rattle.falcon_core.proofs.Answers.{step-accepted}
 use Rattle.falcon_core.proofs.Refused.{run-keeps}
 use Rattle.falcon_core.proofs.Parts.{answered-due, tick-flight}

@@ -13,14 +13,14 @@ use Rattle.relay_batt.specs.Fits.{Fit}
 use Rattle.relay_batt.proofs.Fits.{fits-update, fits-new, fits-opening}
 use Rattle.falcon_guidance.specs.declared.state.Point.{Point}
 use Rattle.falcon_guidance.specs.declared.state.Hold.{Hold}
-use Rattle.falcon_failsafe.specs.declared.state.Opening.{Opening}
+use Rattle.falcon_failsafe.specs.declared.flight.Opening.{Opening}
 use Rattle.falcon_guidance.specs.declared.state.Legs.{Legs}
 use Rattle.falcon_guidance.specs.declared.state.Tick.{Tick}
-use Rattle.falcon_failsafe.specs.declared.state.FlightSupervisor.{FlightSupervisor}
-use Rattle.falcon_core.specs.declared.state.Supervisor.{Supervisor}
+use Rattle.falcon_failsafe.specs.declared.flight.FlightSupervisor.{FlightSupervisor}
+use Rattle.falcon_core.specs.declared.supervisor.Supervisor.{Supervisor}
 use Rattle.falcon_guidance.specs.State.{zerof, origin, noZone, nowhere, maxWaypoints, maxKeepoutZones}
-use Rattle.falcon_failsafe.specs.State.{openedOf}
-use Rattle.falcon_core.specs.State.{unopened}
+use Rattle.falcon_failsafe.specs.Flight.{openedOf}
+use Rattle.falcon_core.specs.Supervisor.{unopened}
 use Rattle.falcon_guidance.specs.Mission.{noPoints, pointAtOf, triedOf, loadedPointsOf}
 use Rattle.falcon_guidance.specs.Zones.{noPlace, zoneAtOf, keptOf as keptZonesOf, loadedZonesOf}
 use Rattle.falcon_failsafe.specs.Failsafe.{clearedOf, breachedOf, runawayOf, windOf}
@@ -28,7 +28,7 @@ use Rattle.falcon_flight.specs.Milestone.{milestoneOf}
 use Rattle.falcon_hold.specs.Hold.{holdsOf, holdRestMs, holdRestS, holdBrakeMaxS, horizSpeedOf, brakePointOf, enteredOf, restOf, brakedOf, leftOf, keptOf, heldOf}
 use Rattle.falcon_flight.specs.Tick.{checkedOf, poweredOf, telemetryOf, sensedOf, afterBreach, afterRunaway, afterWind, afterMilestone, holdingOf, tickOf}
 use Rattle.falcon_core.specs.Calls.{Request, Planning, opens, ticks, reports, commands, plans, points, zones, commandedBy, legsIn, startOf, startPoints, pointsAfter, plannedOf, flightAfter, waypointsAfter, afterOf, stepOf}
-use Rattle.falcon_core.specs.Sound.{runOf, FitPoint, FitZone, FitHold, FitFlight, FitOpening, FitTick, Lent, LentPlan, EachLent}
+use Rattle.falcon_core.specs.SoundState.{runOf, FitPoint, FitZone, FitHold, FitFlight, FitOpening, FitTick, Lent, LentPlan, EachLent}
 use Rattle.falcon_core.proofs.Refused.{step-keeps}
 use Rattle.falcon_core.proofs.Parts.{cond-keeps, reported-keeps, tick-flight}
 use Rattle.falcon_core.proofs.Places.{filled-holds, replicate-holds, stored-filled, stored-zones-filled}

@@ -28,16 +28,16 @@ use Rattle.relay_batt.specs.Config.{forOpeningVoltsOf}
 use Rattle.relay_batt.proofs.Sound.{sound-new, sound-update}
 use Rattle.falcon_guidance.specs.declared.state.Config.{Config}
 use Rattle.falcon_guidance.specs.declared.state.Mission.{Mission}
-use Rattle.falcon_failsafe.specs.declared.state.Opening.{Opening}
+use Rattle.falcon_failsafe.specs.declared.flight.Opening.{Opening}
 use Rattle.falcon_guidance.specs.declared.state.Point.{Point}
 use Rattle.falcon_guidance.specs.declared.state.Zone.{Zone}
 use Rattle.falcon_guidance.specs.declared.state.Legs.{Legs}
 use Rattle.falcon_guidance.specs.declared.state.Tick.{Tick}
-use Rattle.falcon_failsafe.specs.declared.state.FlightSupervisor.{FlightSupervisor}
-use Rattle.falcon_core.specs.declared.state.Supervisor.{Supervisor}
+use Rattle.falcon_failsafe.specs.declared.flight.FlightSupervisor.{FlightSupervisor}
+use Rattle.falcon_core.specs.declared.supervisor.Supervisor.{Supervisor}
 use Rattle.falcon_guidance.specs.State.{origin, noZone, nowhere, maxWaypoints, maxKeepoutZones}
-use Rattle.falcon_failsafe.specs.State.{withMode, withTable, openedOf}
-use Rattle.falcon_core.specs.State.{unopened}
+use Rattle.falcon_failsafe.specs.Flight.{withMode, withTable, openedOf}
+use Rattle.falcon_core.specs.Supervisor.{unopened}
 use Rattle.falcon_guidance.specs.Mission.{noPoints, waypointAdmissibleOf, triedOf, allAdmissibleOf, legWaypointOf, currentWaypointOf}
 use Rattle.falcon_guidance.specs.Zones.{noPlace}
 use Rattle.falcon_failsafe.specs.Preflight.{navRowsOf, integrityRowsOf, readinessRowsOf, updatePreflightOf, escTelemetryOf}
@@ -45,7 +45,7 @@ use Rattle.falcon_failsafe.specs.Failsafe.{modeAfter, clearedOf, breachGives, b
 use Rattle.falcon_flight.specs.Milestone.{arrivedOf, milestoneGives, legOf, milestoneOf}
 use Rattle.falcon_flight.specs.Tick.{checkedOf, poweredOf, telemetryOf, sensedOf, afterBreach, afterRunaway, afterWind, afterMilestone, holdingOf, tickOf}
 use Rattle.falcon_core.specs.Calls.{Request, Planning, opens, ticks, reports, commands, plans, points, zones, planRefused, commandedBy, refusalOf, legsIn, startOf, startPoints, pointsAfter, plannedOf, flightAfter, waypointsAfter, afterOf, stepOf}
-use Rattle.falcon_core.specs.Sound.{runOf, SoundChecks, SoundMission, SoundTilt, SoundFlight}
+use Rattle.falcon_core.specs.SoundState.{runOf, SoundChecks, SoundMission, SoundTilt, SoundFlight}
 use Rattle.falcon_guidance.proofs.Waypoints.{waypoint-within}
 use Rattle.falcon_core.proofs.Refused.{accepted-passed, step-keeps, run-keeps}
 use Rattle.falcon_core.proofs.Parts.{cond-keeps, reported-keeps, tick-flight}

@@ -9,9 +9,9 @@ use Rattle.relay_fsm.specs.Fsm.{onOf}
 use Rattle.falcon_guidance.specs.declared.state.Point.{Point}
 use Rattle.falcon_guidance.specs.declared.state.Legs.{Legs}
 use Rattle.falcon_guidance.specs.declared.state.Tick.{Tick}
-use Rattle.falcon_failsafe.specs.declared.state.FlightSupervisor.{FlightSupervisor}
-use Rattle.falcon_core.specs.declared.state.Supervisor.{Supervisor}
-use Rattle.falcon_failsafe.specs.State.{withMode, withMission, withMotors}
+use Rattle.falcon_failsafe.specs.declared.flight.FlightSupervisor.{FlightSupervisor}
+use Rattle.falcon_core.specs.declared.supervisor.Supervisor.{Supervisor}
+use Rattle.falcon_failsafe.specs.Flight.{withMode, withMission, withMotors}
 use Rattle.falcon_guidance.specs.Mission.{loadedOf, loadedPointsOf}
 use Rattle.falcon_flight.specs.Setpoint.{motorsOffOf}
 use Rattle.falcon_failsafe.specs.Failsafe.{withoutPosition, motorLost, reportedOf}

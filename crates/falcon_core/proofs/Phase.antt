@@ -14,7 +14,7 @@ use Rattle.relay_batt.specs.declared.battery.Battery.{Battery}
 use Rattle.relay_batt.specs.Battery.{updateOf, lostOf}
 use Rattle.falcon_guidance.specs.declared.state.Legs.{Legs}
 use Rattle.falcon_guidance.specs.declared.state.Tick.{Tick}
-use Rattle.falcon_failsafe.specs.declared.state.FlightSupervisor.{FlightSupervisor}
+use Rattle.falcon_failsafe.specs.declared.flight.FlightSupervisor.{FlightSupervisor}
 use Rattle.falcon_failsafe.specs.Preflight.{outsideGeofenceOf}
 use Rattle.falcon_failsafe.specs.Failsafe.{breachOf, reportedOf}
 use Rattle.falcon_flight.specs.Tick.{sensedOf, afterBreach, tickOf}

@@ -12,14 +12,14 @@ use lib.Ieee.{Float}
 use lib.Ieee.Fits.{and-l, and-r}
 use Rattle.falcon_guidance.specs.declared.state.Config.{Config}
 use Rattle.falcon_guidance.specs.declared.state.Point.{Point}
-use Rattle.falcon_failsafe.specs.declared.state.FlightSupervisor.{FlightSupervisor}
-use Rattle.falcon_core.specs.declared.state.Supervisor.{Supervisor}
-use Rattle.falcon_guidance.specs.State.{maxWaypoints, maxKeepoutZones, origin, noZone, nowhere}
+use Rattle.falcon_failsafe.specs.declared.flight.FlightSupervisor.{FlightSupervisor}
+use Rattle.falcon_core.specs.declared.supervisor.Supervisor.{Supervisor}
+use Rattle.falcon_guidance.specs.State.{maxWaypoints, maxKeepoutZones, pointNumbers, zoneNumbers, origin, noZone, nowhere}
 use Rattle.falcon_guidance.specs.declared.state.Zone.{Zone}
 use Rattle.falcon_guidance.specs.Zones.{noPlace, zoneAtOf, keptOf, storedZonesOf, loadedZonesOf}
 use Rattle.falcon_guidance.specs.Mission.{waypointAdmissibleOf, pointAtOf, triedOf, allAdmissibleOf, storedOf, loadedOf, loadedPointsOf}
 use Rattle.falcon_core.specs.Calls.{plans, points, refusalOf, stepOf}
-use Rattle.falcon_core.specs.Sound.{firstOf, filledOf, Tidy, SoundMission, SoundZones}
+use Rattle.falcon_core.specs.SoundState.{firstOf, filledOf, Tidy, SoundMission, SoundZones}
 use Rattle.falcon_guidance.proofs.Waypoints.{tried-places}
 use Rattle.falcon_core.proofs.Parts.{points-flight, points-waypoints}
 
@@ -138,22 +138,22 @@ pub stored-is : (l : List Float) (n : ℕ) → n ≤ maxWaypoints → storedOf l
 stored-is l n h = stored-filled l n ∙ filled-is origin maxWaypoints (pointAtOf l) n h
 
 -- "Only the first 16 points are tried and kept", the first leg is the first point's
-pub loaded-is : (l : List Float) → loadedOf l ≡ record { «wp_count» = min (length l / 3) maxWaypoints; «wp_index» = 0 }
+pub loaded-is : (l : List Float) → loadedOf l ≡ record { «wp_count» = min (length l / pointNumbers) maxWaypoints; «wp_index» = 0 }
 unfolding loadedOf triedOf
 loaded-is l = refl
 
 pub loaded-points-are :
     (l : List Float) →
-    loadedPointsOf l ≡ firstOf (pointAtOf l) (min (length l / 3) maxWaypoints) ++ replicate (maxWaypoints - min (length l / 3) maxWaypoints) origin
+    loadedPointsOf l ≡ firstOf (pointAtOf l) (min (length l / pointNumbers) maxWaypoints) ++ replicate (maxWaypoints - min (length l / pointNumbers) maxWaypoints) origin
 unfolding loadedPointsOf triedOf
-loaded-points-are l = stored-is l (min (length l / 3) maxWaypoints) (tried-places l)
+loaded-points-are l = stored-is l (min (length l / pointNumbers) maxWaypoints) (tried-places l)
 
 -- the mission after an accepted list
 pub points-loaded :
     (s : Supervisor) (l : List Float) →
     refusalOf s (plans (points l)) ≡ 0 →
     stepOf s (plans (points l)) .supervisor .flight .mission ≡
-    record { «wp_count» = min (length l / 3) maxWaypoints; «wp_index» = 0 }
+    record { «wp_count» = min (length l / pointNumbers) maxWaypoints; «wp_index» = 0 }
 points-loaded s l e = ap (λ (f : FlightSupervisor). f .mission) (points-flight s l e) ∙ loaded-is l
 
 -- and the waypoints
@@ -161,7 +161,7 @@ pub points-kept :
     (s : Supervisor) (l : List Float) →
     refusalOf s (plans (points l)) ≡ 0 →
     stepOf s (plans (points l)) .supervisor .waypoints ≡
-    firstOf (pointAtOf l) (min (length l / 3) maxWaypoints) ++ replicate (maxWaypoints - min (length l / 3) maxWaypoints) origin
+    firstOf (pointAtOf l) (min (length l / pointNumbers) maxWaypoints) ++ replicate (maxWaypoints - min (length l / pointNumbers) maxWaypoints) origin
 points-kept s l e = points-waypoints s l e ∙ loaded-points-are l
 
 -- ---- the zones of an accepted list
@@ -181,12 +181,12 @@ pub loaded-zones-is :
     (l : List Float) →
     loadedZonesOf l ≡
     record {
-      zones = firstOf (zoneAtOf l) (min (length l / 4) maxKeepoutZones) ++ replicate (maxKeepoutZones - min (length l / 4) maxKeepoutZones) noZone;
-      «zone_count» = min (length l / 4) maxKeepoutZones;
+      zones = firstOf (zoneAtOf l) (min (length l / zoneNumbers) maxKeepoutZones) ++ replicate (maxKeepoutZones - min (length l / zoneNumbers) maxKeepoutZones) noZone;
+      «zone_count» = min (length l / zoneNumbers) maxKeepoutZones;
     }
 unfolding loadedZonesOf keptOf
 loaded-zones-is l =
-    rw (stored-zones-filled l (min (length l / 4) maxKeepoutZones), filled-is noZone maxKeepoutZones (zoneAtOf l) (min (length l / 4) maxKeepoutZones) (kept-places l))
+    rw (stored-zones-filled l (min (length l / zoneNumbers) maxKeepoutZones), filled-is noZone maxKeepoutZones (zoneAtOf l) (min (length l / zoneNumbers) maxKeepoutZones) (kept-places l))
 
 -- the zones of a list are sound
 pub sound-zones-loaded : (l : List Float) → SoundZones (loadedZonesOf l)

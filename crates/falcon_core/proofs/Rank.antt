@@ -18,7 +18,7 @@ use Rattle.relay_batt.specs.Battery.{updateOf}
 use Rattle.falcon_guidance.specs.declared.state.Config.{Config}
 use Rattle.falcon_guidance.specs.declared.state.Legs.{Legs}
 use Rattle.falcon_guidance.specs.declared.state.Tick.{Tick}
-use Rattle.falcon_failsafe.specs.declared.state.FlightSupervisor.{FlightSupervisor}
+use Rattle.falcon_failsafe.specs.declared.flight.FlightSupervisor.{FlightSupervisor}
 use Rattle.falcon_failsafe.specs.Failsafe.{inFlight, modeAfter, tiltedOf, breachGives, runawayGives, windGives, reportedOf}
 use Rattle.falcon_flight.specs.Milestone.{nearHomeOf, nearGroundOf, milestoneGives}
 use Rattle.falcon_flight.specs.Tick.{sensedOf, afterBreach, afterRunaway, afterWind, afterMilestone, tickOf, givenOf}

@@ -6,12 +6,12 @@ use mathlib.Core.List.{List, [], _∷_}
 use mathlib.Core.Path.{_≡_, refl, sym, ap, _∙_}
 use Rattle.relay_preflight.specs.Table.{outstandingOf}
 use Rattle.relay_preflight.specs.Verdict.{firstBlockerOf}
-use Rattle.falcon_core.specs.declared.state.Supervisor.{Supervisor}
+use Rattle.falcon_core.specs.declared.supervisor.Supervisor.{Supervisor}
 use Rattle.falcon_core.specs.declared.calls.Output.the-variants.{Nothing}
 use Rattle.falcon_core.specs.declared.calls.Answered.{Answered}
 use Rattle.falcon_core.specs.Refusals.{orElse, inadmissible}
 use Rattle.falcon_core.specs.Calls.{Request, miscounted, masksTooLarge, isOpening, isReport, pointRefused, shapeRefusal, sequenceRefusal, stateRefusal, refusalOf, afterOf, answerOf, refusedOf, acceptedOf, stepOf}
-use Rattle.falcon_core.specs.Sound.{runOf}
+use Rattle.falcon_core.specs.SoundState.{runOf}
 use Rattle.falcon_core.proofs.Answers.{step-refused, step-accepted}
 
 -- ---- refused calls

@@ -9,7 +9,7 @@ use Rattle.relay_fsm.proofs.Finite.{_⇒_, then, all1, all2, all5, at1, at2, at
 use Rattle.relay_batt.specs.Battery.{updateOf}
 use Rattle.falcon_guidance.specs.declared.state.Legs.{Legs}
 use Rattle.falcon_guidance.specs.declared.state.Tick.{Tick}
-use Rattle.falcon_failsafe.specs.declared.state.FlightSupervisor.{FlightSupervisor}
+use Rattle.falcon_failsafe.specs.declared.flight.FlightSupervisor.{FlightSupervisor}
 use Rattle.falcon_failsafe.specs.Failsafe.{modeAfter, breachOf, breachEvent, breachGives, tiltedOf, runawayEnough, runawayEvent, runawayCounted, runawayGives}
 use Rattle.falcon_failsafe.specs.Failsafe.{gustyOf, windEnough, windEvent, windCounted, windGives, reportedOf}
 use Rattle.falcon_flight.specs.Milestone.{highOf, nearHomeOf, nearGroundOf, arrivedOf, moreOf, milestoneEvent, milestoneGives}

@@ -13,10 +13,10 @@ use Rattle.relay_fsm.specs.declared.Event.the-variants.{Terminate}
 use Rattle.relay_fsm.specs.Mode.{isMode, isAirborneOf}
 use Rattle.relay_fsm.specs.Fsm.{rowOf, onOf}
 use Rattle.relay_fsm.proofs.Laws.{terminated-stays, terminate-ends, only-terminate-ends}
-use Rattle.falcon_failsafe.specs.declared.state.Counts.{Counts}
+use Rattle.falcon_failsafe.specs.declared.flight.Counts.{Counts}
 use Rattle.falcon_guidance.specs.declared.state.Legs.{Legs}
 use Rattle.falcon_guidance.specs.declared.state.Tick.{Tick}
-use Rattle.falcon_failsafe.specs.declared.state.FlightSupervisor.{FlightSupervisor}
+use Rattle.falcon_failsafe.specs.declared.flight.FlightSupervisor.{FlightSupervisor}
 use Rattle.falcon_failsafe.specs.Failsafe.{tiltedOf, runawayCountOf, runawayEnough, runawayCounted, reportedOf}
 use Rattle.falcon_flight.specs.Tick.{afterBreach, afterRunaway, afterWind, afterMilestone, tickOf}
 use Rattle.falcon_core.specs.Calls.{commandedBy}

@@ -27,14 +27,14 @@ use Rattle.falcon_guidance.specs.declared.state.Zone.{Zone}
 use Rattle.falcon_guidance.specs.declared.state.Config.{Config}
 use Rattle.falcon_guidance.specs.declared.state.Mission.{Mission}
 use Rattle.falcon_guidance.specs.declared.state.Zones.{Zones}
-use Rattle.falcon_core.specs.declared.state.Supervisor.{Supervisor}
+use Rattle.falcon_core.specs.declared.supervisor.Supervisor.{Supervisor}
 use Rattle.falcon_guidance.specs.State.{zerof, origin, noZone, nowhere, maxWaypoints, maxKeepoutZones}
-use Rattle.falcon_core.specs.State.{unopened}
+use Rattle.falcon_core.specs.Supervisor.{unopened}
 use Rattle.falcon_guidance.specs.Mission.{waypointAdmissibleOf}
 use Rattle.falcon_guidance.specs.Zones.{noPlace}
 use Rattle.falcon_failsafe.specs.Failsafe.{tiltRunawayCycles}
 use Rattle.falcon_core.specs.Calls.{Request, stepOf}
-use Rattle.falcon_core.specs.Sound.{runOf, Tidy, eachBelow, checksSoundOf, countsSoundOf, pointsSoundOf, legSoundOf, tiltSoundOf, zeroBits, zeroPoint, zeroZone, unusedSound, unusedSoundOf, soundTests, soundOf, SoundChecks, SoundMission, SoundZones, SoundTilt, SoundFlight, FitPoint, FitZone, FitFlight}
+use Rattle.falcon_core.specs.SoundState.{runOf, Tidy, eachBelow, checksSoundOf, countsSoundOf, pointsSoundOf, legSoundOf, tiltSoundOf, zeroBits, zeroPoint, zeroZone, unusedSound, unusedSoundOf, soundTests, soundOf, SoundChecks, SoundMission, SoundZones, SoundTilt, SoundFlight, FitPoint, FitZone, FitFlight}
 use Rattle.falcon_core.proofs.Invariant.{step-sound, unopened-sound, run-sound, reachable-sound}
 
 -- ---- tests of every number and of every entry

@@ -11,8 +11,8 @@ use Rattle.relay_preflight.specs.Verdict.{firstBlockerOf}
 use Rattle.falcon_guidance.specs.declared.state.Point.{Point}
 use Rattle.falcon_guidance.specs.declared.state.Legs.{Legs}
 use Rattle.falcon_guidance.specs.declared.state.Tick.{Tick}
-use Rattle.falcon_failsafe.specs.declared.state.FlightSupervisor.{FlightSupervisor}
-use Rattle.falcon_failsafe.specs.State.{withMode, withMotors}
+use Rattle.falcon_failsafe.specs.declared.flight.FlightSupervisor.{FlightSupervisor}
+use Rattle.falcon_failsafe.specs.Flight.{withMode, withMotors}
 use Rattle.falcon_failsafe.specs.Preflight.{updatePreflightOf, escTelemetryOf}
 use Rattle.falcon_failsafe.specs.Failsafe.{withoutPosition, modeAfter, clearedOf, breachGives, breachedOf, runawayCounted, runawayGives, runawayOf}
 use Rattle.falcon_failsafe.specs.Failsafe.{windCounted, windGives, windOf, motorLost, reportedOf}

@@ -12,14 +12,14 @@ use Rattle.relay_preflight.specs.declared.TableVerdict.{TableVerdict}
 use Rattle.relay_preflight.specs.declared.TableVerdict.the-variants.{Allowed, Blocked}
 use Rattle.relay_preflight.specs.Table.{outstandingOf, maskLimit}
 use Rattle.relay_preflight.specs.Verdict.{firstBlockerOf, blockerNumber}
-use Rattle.falcon_failsafe.specs.declared.state.Opening.{Opening}
+use Rattle.falcon_failsafe.specs.declared.flight.Opening.{Opening}
 use Rattle.falcon_guidance.specs.declared.state.Tick.{Tick}
 use Rattle.falcon_guidance.specs.declared.state.Point.{Point}
 use Rattle.falcon_guidance.specs.declared.state.Mission.{Mission}
 use Rattle.falcon_guidance.specs.declared.state.Legs.{Legs}
 use Rattle.falcon_guidance.specs.declared.state.Zones.{Zones}
-use Rattle.falcon_failsafe.specs.declared.state.FlightSupervisor.{FlightSupervisor}
-use Rattle.falcon_core.specs.declared.state.Supervisor.{Supervisor}
+use Rattle.falcon_failsafe.specs.declared.flight.FlightSupervisor.{FlightSupervisor}
+use Rattle.falcon_core.specs.declared.supervisor.Supervisor.{Supervisor}
 use Rattle.falcon_flight.specs.declared.tick.TickAnswer.{TickAnswer}
 use Rattle.falcon_flight.specs.declared.tick.TickAnswer.the-variants.{MotorsOff, Setpoint}
 use Rattle.falcon_core.specs.declared.calls.Output.{Output}
@@ -27,8 +27,8 @@ use Rattle.falcon_core.specs.declared.calls.Output.the-variants.{Nothing
 use Rattle.falcon_core.specs.declared.calls.Answer.{Answer}
 use Rattle.falcon_core.specs.declared.calls.Answered.{Answered}
 use Rattle.falcon_core.specs.declared.calls.FlightAnswered.{FlightAnswered}
-use Rattle.falcon_failsafe.specs.State.{openedOf, withMode, withMission, withZones}
-use Rattle.falcon_guidance.specs.State.{origin}
+use Rattle.falcon_failsafe.specs.Flight.{openedOf, withMode, withMission, withZones}
+use Rattle.falcon_guidance.specs.State.{origin, pointNumbers, zoneNumbers}
 use Rattle.falcon_guidance.specs.Mission.{noPoints, triedOf, allAdmissibleOf, loadedOf, loadedPointsOf, legsOf}
 use Rattle.falcon_guidance.specs.Zones.{loadedZonesOf}
 use Rattle.falcon_failsafe.specs.Failsafe.{reportedOf}
@@ -51,8 +51,8 @@ pub data Request : Type 0 where
 
 -- 4: "lent points not 3 each, zones not 4 each"
 abbrev pub miscountedPlan : Planning → Bool
-miscountedPlan (points l) = not (eqb (length l % 3) 0)
-miscountedPlan (zones l) = not (eqb (length l % 4) 0)
+miscountedPlan (points l) = not (eqb (length l % pointNumbers) 0)
+miscountedPlan (zones l) = not (eqb (length l % zoneNumbers) 0)
 
 abbrev pub miscounted : Request → Bool
 miscounted (opens o) = false
@@ -223,28 +223,31 @@ stepOf s r = cond (eqb (refusalOf s r) 0) (acceptedOf (afterOf s r) (outputOf (s
 
 -- ---- a tick, a report or a command: what it leaves of the flight, without the waypoints
 
-unfoldable pub keptOf : FlightSupervisor → Bool → ℕ → FlightAnswered
-keptOf f due refusal = record { flight = f; «report_due» = due; answer = answerOf f refusal Nothing }
+-- a refusal keeps the flight, and whether a report is due
+unfoldable pub flightRefusedOf : FlightSupervisor → Bool → ℕ → FlightAnswered
+flightRefusedOf f due refusal = record { flight = f; «report_due» = due; answer = answerOf f refusal Nothing }
 
-unfoldable pub movedOf : FlightSupervisor → Bool → Output → FlightAnswered
-movedOf f due out = record { flight = f; «report_due» = due; answer = answerOf f 0 out }
+-- an accepted one
+unfoldable pub flightAcceptedOf : FlightSupervisor → Bool → Output → FlightAnswered
+flightAcceptedOf f due out = record { flight = f; «report_due» = due; answer = answerOf f 0 out }
 
 -- reports and commands read no waypoint
 abbrev pub noLegs : Legs
 noLegs = record { here = origin; next = origin }
 
+-- the flight, whether a report is due, and the answer after it
 unfoldable pub flightStepOf : FlightSupervisor → Bool → Bool → Legs → Request → FlightAnswered
 flightStepOf f opened due l r =
-    cond (eqb (sequenceRefusal opened due (isReport r)) 0) (movedOf (flightAfter f l r) (reportDueAfter (outputOf f l r)) (outputOf f l r))
-    (keptOf f due (sequenceRefusal opened due (isReport r)))
+    cond (eqb (sequenceRefusal opened due (isReport r)) 0) (flightAcceptedOf (flightAfter f l r) (reportDueAfter (outputOf f l r)) (outputOf f l r))
+    (flightRefusedOf f due (sequenceRefusal opened due (isReport r)))
+
+-- the state with this flight and these waypoints, a report due or not, and its other parts as they were
+abbrev pub withFlight : Supervisor → FlightSupervisor → List Point → Bool → Supervisor
+withFlight s f ps due = record { flight = f; waypoints = ps; opened = s .opened; «report_due» = due }
 
 -- the answer with the state's other parts as they were
 abbrev pub besideOf : Supervisor → FlightAnswered → Answered
-besideOf s a =
-    record {
-      supervisor = record { flight = a .flight; waypoints = s .waypoints; opened = s .opened; «report_due» = a .«report_due» };
-      answer = a .answer;
-    }
+besideOf s a = record { supervisor = withFlight s (a .flight) (s .waypoints) (a .«report_due»); answer = a .answer }
 
 -- 0 or 1
 abbrev pub flag : Bool → ℕ

@@ -1,5 +1,5 @@
 pub mod Refusals
-pub mod State
+pub mod Supervisor
 pub mod Calls
 pub mod Land
-pub mod Sound
+pub mod SoundState

@@ -1,20 +1,22 @@
 // The calls by lent values. Each takes the state and gives the state after it with its answer.
 ghost use mathlib.Core.Path.{_≡_};
 ghost use Rattle.falcon_core.specs.Calls.{opens, ticks, reports, commands, plans, points, zones, sequenceRefusal, allowedOf, commandedBy, dueAfter, answerOf, refusedOf, acceptedOf};
-ghost use Rattle.falcon_core.specs.Calls.{stepOf, keptOf, movedOf, noLegs, flightStepOf, flag, numbersOf};
-use crate::state::Supervisor;
+ghost use Rattle.falcon_core.specs.Calls.{stepOf, flightRefusedOf, flightAcceptedOf, noLegs, flightStepOf, besideOf, flag, numbersOf};
+use crate::supervisor::Supervisor;
 use falcon_failsafe::failsafe::reported;
-use falcon_failsafe::state::FlightSupervisor;
-use falcon_failsafe::state::Opening;
+use falcon_failsafe::flight::FlightSupervisor;
+use falcon_failsafe::flight::Opening;
 use falcon_flight::tick::TickAnswer;
 use falcon_flight::tick::tick;
-use falcon_guidance::mission::legs;
+use falcon_guidance::legs::legs;
 use falcon_guidance::mission::loaded;
 use falcon_guidance::mission::loaded_points;
 use falcon_guidance::mission::no_points;
 use falcon_guidance::mission::tried_admissible;
 use falcon_guidance::state::Legs;
+use falcon_guidance::state::Point;
 use falcon_guidance::state::Tick;
+use falcon_guidance::state::Zone;
 use falcon_guidance::zones::loaded_zones;
 use relay_fsm::Event;
 use relay_fsm::Gates;
@@ -218,8 +220,8 @@ fn sequence_refusal(opened: bool, due: bool, report: bool) -> u32
 }
 
 // A refusal keeps the flight, and whether a report is due.
-fn kept(f: FlightSupervisor, due: bool, refusal: u32) -> FlightAnswered
-    ensures { λ r. ⌜ r ≡ keptOf f due refusal ⌝ }
+fn flight_refused(f: FlightSupervisor, due: bool, refusal: u32) -> FlightAnswered
+    ensures { λ r. ⌜ r ≡ flightRefusedOf f due refusal ⌝ }
 {
     let a = answer_of(f, refusal, Output::Nothing);
     FlightAnswered {
@@ -229,8 +231,9 @@ fn kept(f: FlightSupervisor, due: bool, refusal: u32) -> FlightAnswered
     }
 }
 
-fn moved(f: FlightSupervisor, due: bool, output: Output) -> FlightAnswered
-    ensures { λ r. ⌜ r ≡ movedOf f due output ⌝ }
+// An accepted tick, report or command.
+fn flight_accepted(f: FlightSupervisor, due: bool, output: Output) -> FlightAnswered
+    ensures { λ r. ⌜ r ≡ flightAcceptedOf f due output ⌝ }
 {
     let a = answer_of(f, Answer::ACCEPTED, output);
     FlightAnswered {
@@ -252,12 +255,12 @@ pub fn flight_tick(
 {
     let refusal = sequence_refusal(opened, due, false);
     if refusal != Answer::ACCEPTED {
-        return kept(f, due, refusal);
+        return flight_refused(f, due, refusal);
     }
     let ticked = tick(f, legs, t);
     let flight = ticked.flight;
     let answer = ticked.answer;
-    moved(flight, due_after(answer), Output::Ticks(answer))
+    flight_accepted(flight, due_after(answer), Output::Ticks(answer))
 }
 
 // Whether a motor failed while the core ran the latest tick, from the flight.
@@ -266,9 +269,9 @@ pub fn flight_report(f: FlightSupervisor, opened: bool, due: bool, failed: bool)
 {
     let refusal = sequence_refusal(opened, due, true);
     if refusal != Answer::ACCEPTED {
-        return kept(f, due, refusal);
+        return flight_refused(f, due, refusal);
     }
-    moved(reported(f, failed), false, Output::Nothing)
+    flight_accepted(reported(f, failed), false, Output::Nothing)
 }
 
 // A command of the pilot, from the flight.
@@ -284,13 +287,28 @@ pub fn flight_command(
 {
     let refusal = sequence_refusal(opened, due, false);
     if refusal != Answer::ACCEPTED {
-        return kept(f, due, refusal);
+        return flight_refused(f, due, refusal);
     }
-    moved(
+    flight_accepted(
         commanded(f, ev, level, throttle_low),
         false,
         Output::Nothing,
     )
+}
+
+// What a tick, a report or a command leaves, with the state's other parts as they were.
+fn beside(s: Supervisor, told: FlightAnswered) -> Answered
+    ensures { λ r. ⌜ r ≡ besideOf s told ⌝ }
+{
+    let flight = told.flight;
+    let answer = told.answer;
+    let mut next = s;
+    next.flight = flight;
+    next.report_due = told.report_due;
+    Answered {
+        supervisor: next,
+        answer,
+    }
 }
 
 impl Supervisor {
@@ -318,22 +336,14 @@ impl Supervisor {
         let config = self.flight.config;
         let mission = self.flight.mission;
         let waypoints = self.waypoints;
-        let ticked = flight_tick(
+        let told = flight_tick(
             self.flight,
             self.opened,
             self.report_due,
             legs(config, waypoints, mission),
             t,
         );
-        let flight = ticked.flight;
-        let answer = ticked.answer;
-        let mut next = self;
-        next.flight = flight;
-        next.report_due = ticked.report_due;
-        Answered {
-            supervisor: next,
-            answer,
-        }
+        beside(self, told)
     }
 
     // Whether a motor failed while the core ran the latest tick.
@@ -341,15 +351,7 @@ impl Supervisor {
         ensures { λ r. ⌜ r ≡ stepOf self (reports failed) ⌝ }
     {
         let told = flight_report(self.flight, self.opened, self.report_due, failed);
-        let flight = told.flight;
-        let answer = told.answer;
-        let mut next = self;
-        next.flight = flight;
-        next.report_due = told.report_due;
-        Answered {
-            supervisor: next,
-            answer,
-        }
+        beside(self, told)
     }
 
     // A command of the pilot.
@@ -364,15 +366,7 @@ impl Supervisor {
             level,
             throttle_low,
         );
-        let flight = told.flight;
-        let answer = told.answer;
-        let mut next = self;
-        next.flight = flight;
-        next.report_due = told.report_due;
-        Answered {
-            supervisor: next,
-            answer,
-        }
+        beside(self, told)
     }
 
     // A new list of waypoints, three numbers each; one bad point refuses the list and the old one stays.
@@ -380,7 +374,7 @@ impl Supervisor {
         ensures answered { λ r. ⌜ r ≡ stepOf self (plans (points (now (lent .entry)))) ⌝ }
         ensures unchanged { λ _. ⌜ now (lent .exit) ≡ now (lent .entry) ⌝ }
     {
-        if lent.len() % 3 != 0 {
+        if lent.len() % Point::NUMBERS != 0 {
             return refused(self, Answer::WRONG_COUNT);
         }
         let refusal = sequence_refusal(self.opened, self.report_due, false);
@@ -406,7 +400,7 @@ impl Supervisor {
         ensures answered { λ r. ⌜ r ≡ stepOf self (plans (zones (now (lent .entry)))) ⌝ }
         ensures unchanged { λ _. ⌜ now (lent .exit) ≡ now (lent .entry) ⌝ }
     {
-        if lent.len() % 4 != 0 {
+        if lent.len() % Zone::NUMBERS != 0 {
             return refused(self, Answer::WRONG_COUNT);
         }
         let refusal = sequence_refusal(self.opened, self.report_due, false);

@@ -1,3 +1,3 @@
 // The supervisor of a parcel shuttle: the calls by lent values.
 pub mod calls;
-pub mod state;
+pub mod supervisor;

@@ -7,9 +7,9 @@ use Rattle.relay_fsm.specs.declared.Mode.the-variants.{Rtl}
 use Rattle.relay_fsm.specs.declared.Event.{Event}
 use Rattle.relay_fsm.specs.declared.Event.the-variants.{Failsafe}
 use Rattle.relay_fsm.specs.Fsm.{onOf}
-use Rattle.falcon_failsafe.specs.declared.state.FailsafeState.{FailsafeState}
-use Rattle.falcon_failsafe.specs.declared.state.FlightSupervisor.{FlightSupervisor}
-use Rattle.falcon_failsafe.specs.State.{withMode}
+use Rattle.falcon_failsafe.specs.declared.flight.FailsafeState.{FailsafeState}
+use Rattle.falcon_failsafe.specs.declared.flight.FlightSupervisor.{FlightSupervisor}
+use Rattle.falcon_failsafe.specs.Flight.{withMode}
 use Rattle.falcon_failsafe.specs.Failsafe.{inFlight, withoutPosition, modeAfter, failsafedIn, breachFails, motorLost, reportedOf}
 
 pub mode-if : (m : Mode) (b : Bool) (e : Event) → modeAfter m (cond b (some e) none) ≡ cond b (onOf m e inFlight) m

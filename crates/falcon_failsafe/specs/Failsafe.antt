@@ -16,9 +16,9 @@ use Rattle.relay_fsm.specs.Fsm.{onOf}
 use Rattle.relay_batt.specs.Battery.{lostOf}
 use Rattle.relay_batt.specs.declared.battery.Battery.{Battery}
 use Rattle.falcon_guidance.specs.declared.state.Tick.{Tick}
-use Rattle.falcon_failsafe.specs.declared.state.FailsafeState.{FailsafeState}
-use Rattle.falcon_failsafe.specs.declared.state.FlightSupervisor.{FlightSupervisor}
-use Rattle.falcon_failsafe.specs.State.{withMode, failsafeStateOf, withFailsafes}
+use Rattle.falcon_failsafe.specs.declared.flight.FailsafeState.{FailsafeState}
+use Rattle.falcon_failsafe.specs.declared.flight.FlightSupervisor.{FlightSupervisor}
+use Rattle.falcon_failsafe.specs.Flight.{withMode, failsafeStateOf, withFailsafes}
 use Rattle.falcon_failsafe.specs.Preflight.{outsideGeofenceOf}
 
 -- the gates that `step` hands over: all hold

@@ -1,3 +1,3 @@
-pub mod State
+pub mod Flight
 pub mod Preflight
 pub mod Failsafe

@@ -1,4 +1,4 @@
 // The flight, the checks that a tick sets, and the failsafes.
 pub mod failsafe;
+pub mod flight;
 pub mod preflight;
-pub mod state;

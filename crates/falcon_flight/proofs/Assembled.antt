@@ -13,9 +13,9 @@ use Rattle.falcon_guidance.specs.declared.state.Point.{Point}
 use Rattle.falcon_guidance.specs.declared.state.Tick.{Tick}
 use Rattle.falcon_guidance.specs.Geometry.{distanceOf}
 use Rattle.falcon_hold.specs.Hold.{heldOf}
-use Rattle.falcon_failsafe.specs.declared.state.FailsafeState.{FailsafeState}
-use Rattle.falcon_failsafe.specs.declared.state.FlightSupervisor.{FlightSupervisor}
-use Rattle.falcon_failsafe.specs.State.{failsafeStateOf, withFailsafes, withMode, withMission, withHold, withMotors, withBattery, withTable}
+use Rattle.falcon_failsafe.specs.declared.flight.FailsafeState.{FailsafeState}
+use Rattle.falcon_failsafe.specs.declared.flight.FlightSupervisor.{FlightSupervisor}
+use Rattle.falcon_failsafe.specs.Flight.{failsafeStateOf, withFailsafes, withMode, withMission, withHold, withMotors, withBattery, withTable}
 use Rattle.falcon_failsafe.specs.Preflight.{outsideGeofenceOf, readinessRowsOf, updatePreflightIn, updatePreflightOf, escTelemetryOf}
 use Rattle.falcon_failsafe.specs.Failsafe.{clearedLatch, clearedOf, breachOf, breachGives, breachedIn, breachedOf}
 use Rattle.falcon_failsafe.specs.Failsafe.{tiltedOf, runawayCounted, runawayGives, runawayIn, runawayOf}

@@ -1,4 +1,3 @@
 pub mod Assembled
 pub mod Milestones
 pub mod Flown
-pub mod Further

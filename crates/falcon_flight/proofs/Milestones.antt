@@ -9,7 +9,7 @@ use Rattle.relay_fsm.specs.declared.Event.the-variants.{ReachedAltitude, Reache
 use Rattle.relay_fsm.specs.Fsm.{onOf}
 use Rattle.falcon_guidance.specs.declared.state.Legs.{Legs}
 use Rattle.falcon_guidance.specs.declared.state.Tick.{Tick}
-use Rattle.falcon_failsafe.specs.declared.state.FlightSupervisor.{FlightSupervisor}
+use Rattle.falcon_failsafe.specs.declared.flight.FlightSupervisor.{FlightSupervisor}
 use Rattle.falcon_failsafe.specs.Failsafe.{inFlight, modeAfter}
 use Rattle.falcon_flight.specs.Milestone.{nearGroundOf, milestoneEvent, milestoneGives}
 

@@ -16,8 +16,8 @@ use Rattle.falcon_guidance.specs.declared.state.Config.{Config}
 use Rattle.falcon_guidance.specs.declared.state.Tick.{Tick}
 use Rattle.falcon_guidance.specs.declared.state.Mission.{Mission as MissionState}
 use Rattle.falcon_guidance.specs.declared.state.Legs.{Legs}
-use Rattle.falcon_failsafe.specs.declared.state.FlightSupervisor.{FlightSupervisor}
-use Rattle.falcon_failsafe.specs.State.{withMode, withMission}
+use Rattle.falcon_failsafe.specs.declared.flight.FlightSupervisor.{FlightSupervisor}
+use Rattle.falcon_failsafe.specs.Flight.{withMode, withMission}
 use Rattle.falcon_guidance.specs.Geometry.{distanceOf, heightOf}
 use Rattle.falcon_failsafe.specs.Failsafe.{inFlight, modeAfter}
 use Rattle.falcon_flight.specs.declared.milestone.Reached.{Reached}

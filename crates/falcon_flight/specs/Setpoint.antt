@@ -10,7 +10,7 @@ use Rattle.falcon_guidance.specs.declared.state.Config.{Config}
 use Rattle.falcon_guidance.specs.declared.state.Horizontal.{Horizontal}
 use Rattle.falcon_guidance.specs.declared.state.Zones.{Zones}
 use Rattle.falcon_guidance.specs.declared.state.Tick.{Tick}
-use Rattle.falcon_failsafe.specs.declared.state.FlightSupervisor.{FlightSupervisor}
+use Rattle.falcon_failsafe.specs.declared.flight.FlightSupervisor.{FlightSupervisor}
 use Rattle.falcon_guidance.specs.State.{pointOf}
 use Rattle.falcon_guidance.specs.Geometry.{distanceOf}
 use Rattle.falcon_guidance.specs.Zones.{avoidOf}

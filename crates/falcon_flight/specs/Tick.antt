@@ -15,11 +15,11 @@ use Rattle.falcon_guidance.specs.declared.state.Horizontal.{Horizontal}
 use Rattle.falcon_guidance.specs.declared.state.Tick.{Tick}
 use Rattle.falcon_guidance.specs.declared.state.Legs.{Legs}
 use Rattle.falcon_guidance.specs.declared.state.Point.{Point}
-use Rattle.falcon_failsafe.specs.declared.state.FlightSupervisor.{FlightSupervisor}
+use Rattle.falcon_failsafe.specs.declared.flight.FlightSupervisor.{FlightSupervisor}
 use Rattle.falcon_flight.specs.declared.tick.TickAnswer.{TickAnswer}
 use Rattle.falcon_flight.specs.declared.tick.TickAnswer.the-variants.{MotorsOff, Setpoint}
 use Rattle.falcon_flight.specs.declared.tick.Ticked.{Ticked}
-use Rattle.falcon_failsafe.specs.State.{withBattery, withTable, withHold, withMotors}
+use Rattle.falcon_failsafe.specs.Flight.{withBattery, withTable, withHold, withMotors}
 use Rattle.falcon_failsafe.specs.Preflight.{updatePreflightOf, escTelemetryOf}
 use Rattle.falcon_failsafe.specs.Failsafe.{clearedOf, breachedOf, breachGives, runawayOf, runawayGives, windOf, windGives}
 use Rattle.falcon_flight.specs.Milestone.{milestoneOf, milestoneGives}

@@ -1,3 +1,3 @@
 pub mod Waypoints
 pub mod KeptZones
-pub mod OpenLegs
+pub mod LegPlaces

@@ -2,3 +2,4 @@ pub mod State
 pub mod Geometry
 pub mod Mission
 pub mod Zones
+pub mod Legs

@@ -1,13 +1,12 @@
-// The waypoints: which are admissible, how a lent list is stored, and those of the active leg and the next.
+// The waypoints: which are admissible, and how a lent list is stored.
 ghost use mathlib.Core.Path.{_≡_};
-ghost use Prim.Native.Nat.{_+_, _*_, _<_, _≤_, min};
+ghost use Prim.Native.Nat.{_+_, _*_, _<_, _≤_};
 ghost use lib.ListN.{length};
 ghost use Rattle.falcon_guidance.specs.State.{maxWaypoints, pointNumbers};
 ghost use Rattle.falcon_guidance.specs.Mission.{waypointAdmissibleOf, pointAtOf, triedOf, allAdmissibleOf, storedOf, loadedOf};
-ghost use Rattle.falcon_guidance.specs.Mission.{noPoints, loadedPointsOf, waypointAtOf, legsOf};
+ghost use Rattle.falcon_guidance.specs.Mission.{noPoints, loadedPointsOf};
 use crate::geometry::distance;
 use crate::state::Config;
-use crate::state::Legs;
 use crate::state::Mission;
 use crate::state::Point;
 use relay_math::is_finite;
@@ -110,53 +109,4 @@ pub fn no_points() -> [Point; Point::MAX_WAYPOINTS]
 {
     let point = Point::origin();
     [point; Point::MAX_WAYPOINTS]
-}
-
-// The smaller of two numbers.
-fn least(a: u32, b: u32) -> u32
-    ensures { λ r. ⌜ r ≡ min a b ⌝ }
-{
-    if a < b {
-        return a;
-    }
-    b
-}
-
-// One more than a number, at most the last.
-fn following(i: u32, last: u32) -> u32
-    ensures { λ r. ⌜ r ≡ min (i + 1) last ⌝ }
-{
-    if i < last {
-        return i + 1;
-    }
-    last
-}
-
-// The waypoint in place i, the origin beyond the places.
-fn waypoint_at(points: [Point; Point::MAX_WAYPOINTS], i: u32) -> Point
-    ensures { λ r. ⌜ r ≡ waypointAtOf points i ⌝ }
-{
-    let at = i as usize;
-    if at < Point::MAX_WAYPOINTS {
-        return points[at];
-    }
-    Point::origin()
-}
-
-// The waypoints of the active leg and of the next, home where there is none.
-pub fn legs(c: Config, points: [Point; Point::MAX_WAYPOINTS], m: Mission) -> Legs
-    ensures { λ r. ⌜ r ≡ legsOf c points m ⌝ }
-{
-    let count = m.wp_count;
-    if count == 0 {
-        let home = c.home;
-        return Legs {
-            here: home,
-            next: home,
-        };
-    }
-    let last = count - 1;
-    let here = waypoint_at(points, least(m.wp_index, last));
-    let next = waypoint_at(points, following(m.wp_index, last));
-    Legs { here, next }
 }

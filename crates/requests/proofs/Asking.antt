@@ -20,7 +20,7 @@ use Rattle.requests.specs.declared.kinds.Kind.the-variants.{Flight, Othe
 use Rattle.requests.specs.declared.kinds.OtherCall.the-variants.{Refused, Opens, Points, Zones}
 use Rattle.requests.specs.Kinds.{Asked, refuses, asks, numberAt, listHead, listFields, requestOf, listLine, listFloats, Says}
 use Rattle.falcon_core.specs.Refusals.{notALine}
-use Rattle.requests.specs.Line.{askedBy, limitFields, mostFields, readingLine}
+use Rattle.requests.specs.Parse.{askedBy, limitFields, mostFields, readingLine}
 
 -- ---- the limit of a line
 

@@ -5,7 +5,7 @@ use mathlib.Core.Path.{_≡_, refl, sym, ap, _∙_}
 use mathlib.Core.List.{List, [], _++_, append-nil}
 use borrow.Author.Tests.{lt-ltb, le-ltb}
 use lib.ListN.{length, drop}
-use Rattle.falcon_core.specs.declared.state.Supervisor.{Supervisor}
+use Rattle.falcon_core.specs.declared.supervisor.Supervisor.{Supervisor}
 use Rattle.falcon_core.specs.declared.calls.Answered.{Answered}
 use Rattle.falcon_core.specs.declared.calls.Output.{Output}
 use Rattle.falcon_core.specs.declared.calls.Output.the-variants.{Nothing, Ticks}
@@ -17,7 +17,7 @@ use Rattle.columns.specs.Field.{fieldWidth, inRange, kindOf}
 use Rattle.columns.specs.Line.{lineOf, writtenOver}
 use Rattle.columns.proofs.Writing.{length-line}
 use Rattle.requests.specs.Kinds.{Asked, answeredBy}
-use Rattle.requests.specs.Line.{askedLine}
+use Rattle.requests.specs.Parse.{askedLine}
 use Rattle.falcon_core.proofs.Numbers.{numbers-count}
 use Rattle.requests.specs.ByLine.{answerWidth, needFields, mostNeeded, needOf, askedWith, lineStep, extraOf, replyNumbers, replyOf, bufferAfter}
 

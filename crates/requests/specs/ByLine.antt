@@ -4,7 +4,7 @@ use mathlib.Core.Bool.{cond}
 use mathlib.Core.List.{List, [], _++_}
 use lib.Dec.{ltb}
 use lib.ListN.{length, drop}
-use Rattle.falcon_core.specs.declared.state.Supervisor.{Supervisor}
+use Rattle.falcon_core.specs.declared.supervisor.Supervisor.{Supervisor}
 use Rattle.falcon_core.specs.declared.calls.Answered.{Answered}
 use Rattle.falcon_core.specs.declared.calls.Output.{Output}
 use Rattle.falcon_core.specs.declared.calls.Output.the-variants.{Nothing, Ticks}
@@ -15,7 +15,7 @@ use Rattle.columns.specs.declared.field.FieldRead.the-variants.{Number, Bad}
 use Rattle.columns.specs.Field.{fieldWidth, kindOf}
 use Rattle.columns.specs.Line.{lineOf}
 use Rattle.requests.specs.Kinds.{Asked, refuses, answeredBy}
-use Rattle.requests.specs.Line.{askedLine}
+use Rattle.requests.specs.Parse.{askedLine}
 
 -- "110 bytes"
 abbrev pub answerWidth : ℕ

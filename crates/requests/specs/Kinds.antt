@@ -12,9 +12,9 @@ use Rattle.relay_fsm.specs.Event.{eventAt}
 use Rattle.relay_batt.specs.declared.battery.Reading.{Reading}
 use Rattle.relay_batt.specs.declared.battery.Reading.the-variants.{Nothing, Volts, VoltsAmps}
 use Rattle.falcon_guidance.specs.declared.state.Point.{Point}
-use Rattle.falcon_failsafe.specs.declared.state.Opening.{Opening}
+use Rattle.falcon_failsafe.specs.declared.flight.Opening.{Opening}
 use Rattle.falcon_guidance.specs.declared.state.Tick.{Tick}
-use Rattle.falcon_core.specs.declared.state.Supervisor.{Supervisor}
+use Rattle.falcon_core.specs.declared.supervisor.Supervisor.{Supervisor}
 use Rattle.falcon_core.specs.declared.calls.Answered.{Answered}
 use Rattle.requests.specs.declared.kinds.Kind.{Kind}
 use Rattle.requests.specs.declared.kinds.Kind.the-variants.{Flight, Other}

@@ -1,3 +1,3 @@
 pub mod Kinds
-pub mod Line
+pub mod Parse
 pub mod ByLine

@@ -6,7 +6,7 @@ ghost use Rattle.falcon_guidance.specs.State.{zoneNumbers};
 ghost use Rattle.requests.specs.Kinds.{floatAt, isFlag, flagAt, pointFrom, openingFields, openingFrom, openingLine, tickFields, readingFrom, batteryOk, tickFrom, tickOk, tickLine};
 ghost use Rattle.requests.specs.Kinds.{reportLine, commandLine, isList, pointsLine, zonesLine, requestOf, Says};
 use falcon_core::calls::Answer;
-use falcon_failsafe::state::Opening;
+use falcon_failsafe::flight::Opening;
 use falcon_guidance::state::Point;
 use falcon_guidance::state::Tick;
 use falcon_guidance::state::Zone;

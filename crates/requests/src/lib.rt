@@ -1,3 +1,3 @@
 // From a line's numbers to a call.
 pub mod kinds;
-pub mod line;
+pub mod parse;

@@ -6,7 +6,7 @@ ghost use lib.ListN.{length};
 use columns::field::FIELD;
 use columns::field::FieldRead;
 use columns::field::read_field_of;
-use falcon_core::state::Supervisor;
+use falcon_core::supervisor::Supervisor;
 use libc::STDIN_FILENO;
 use libc::STDOUT_FILENO;
 use sheet::entry::answer;

@@ -8,8 +8,8 @@ use lib.ListN.{length, take, drop, getD, length-append}
 use lib.Seq.{length-take-le}
 use Rattle.falcon_guidance.specs.declared.state.Point.{Point}
 use Rattle.falcon_guidance.specs.declared.state.Legs.{Legs}
-use Rattle.falcon_failsafe.specs.declared.state.FlightSupervisor.{FlightSupervisor}
-use Rattle.falcon_core.specs.declared.state.Supervisor.{Supervisor}
+use Rattle.falcon_failsafe.specs.declared.flight.FlightSupervisor.{FlightSupervisor}
+use Rattle.falcon_core.specs.declared.supervisor.Supervisor.{Supervisor}
 use Rattle.falcon_core.specs.declared.calls.Answer.{Answer}
 use Rattle.falcon_core.specs.declared.calls.Answered.{Answered}
 use Rattle.falcon_core.specs.declared.calls.FlightAnswered.{FlightAnswered}
@@ -84,11 +84,11 @@ module _ (s : Supervisor) where
   parts call = flightStepOf (s .flight) (s .opened) (s .«report_due») (legsIn s) (flightAsks call)
 
   call-beside : (call : FlightCall) → besideOf s (parts call) ≡ stepOf s (flightAsks call)
-  call-beside (Ticks t) = tick-beside s t
+  call-beside (Ticks t) = tick-beside s t (legsIn s) (parts (Ticks t)) refl refl
   call-beside (Reports failed) =
-      ap (besideOf s) (sym (report-legs (s .flight) (s .opened) (s .«report_due») (legsIn s) failed)) ∙ report-beside s failed
+      report-beside s failed (parts (Reports failed)) (sym (report-legs (s .flight) (s .opened) (s .«report_due») (legsIn s) failed))
   call-beside (Commands ev level low) =
-      ap (besideOf s) (sym (command-legs (s .flight) (s .opened) (s .«report_due») (legsIn s) ev level low)) ∙ command-beside s ev level low
+      command-beside s ev level low (parts (Commands ev level low)) (sym (command-legs (s .flight) (s .opened) (s .«report_due») (legsIn s) ev level low))
 
   -- the flight's entry leaves the waypoints
   pub replied-flight :

@@ -1,6 +1,5 @@
 mod Examples
 mod Floats
-pub mod LegPlaces
 pub mod Entries
 pub mod LinesAgain
 pub mod LinesCut

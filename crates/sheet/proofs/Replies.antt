@@ -6,7 +6,7 @@ use mathlib.Core.Path.{_≡_, refl, sym, ap, _∙_}
 use mathlib.Core.List.{List, [], _∷_, _++_}
 use lib.ListN.{length, take, drop, length-append}
 use lib.Seq.{length-take-le}
-use Rattle.falcon_core.specs.declared.state.Supervisor.{Supervisor}
+use Rattle.falcon_core.specs.declared.supervisor.Supervisor.{Supervisor}
 use Rattle.sheet.specs.declared.many.Progress.{Progress}
 use Rattle.columns.specs.Field.{fieldWidth, put}
 use Rattle.columns.specs.Line.{Reading, lineOf}
@@ -14,7 +14,7 @@ use Rattle.columns.proofs.Writing.{length-line}
 use Rattle.sheet.specs.Lines.{newline, whole, joined, lineEnd, lastLine, linesOf, together, answers, stream}
 use Rattle.requests.specs.Kinds.{answeredBy}
 use Rattle.requests.specs.ByLine.{needOf, replyNumbers, replyOf}
-use Rattle.requests.specs.Line.{mostFields, askedBy, askedLine}
+use Rattle.requests.specs.Parse.{mostFields, askedBy, askedLine}
 use Rattle.sheet.specs.Many.{afterLine, replyLine, fittingRoom, fitting, EndsFitting, replies, progressOf, answersOver}
 use Rattle.requests.proofs.Asking.{reading-cut}
 use Rattle.requests.proofs.Buffer.{reply-fits}

@@ -5,7 +5,7 @@ use mathlib.Core.Path.{_≡_, sym, ap, _∙_}
 use mathlib.Core.List.{List, [], _∷_, _++_}
 use lib.ListN.{length, take, drop, length-append, length-drop}
 use lib.Seq.{take-all}
-use Rattle.falcon_core.specs.declared.state.Supervisor.{Supervisor}
+use Rattle.falcon_core.specs.declared.supervisor.Supervisor.{Supervisor}
 use Rattle.sheet.specs.declared.many.Progress.{Progress}
 use Rattle.columns.specs.Field.{put}
 use Rattle.requests.specs.ByLine.{needOf}

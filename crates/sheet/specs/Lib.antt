@@ -1,4 +1,3 @@
 pub mod Entry
-pub mod Legs
 pub mod Lines
 pub mod Many

@@ -7,7 +7,7 @@ use lib.Dec.{eqb, ltb}
 use lib.ListN.{length, take, drop}
 use lib.Seq.{slice}
 use Rattle.columns.specs.Field.{fieldWidth}
-use Rattle.requests.specs.Line.{mostFields}
+use Rattle.requests.specs.Parse.{mostFields}
 
 abbrev pub newline : ℕ
 newline = 10

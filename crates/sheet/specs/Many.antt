@@ -3,13 +3,13 @@ use Prim.Native.Nat.{ℕ, _+_, _-_, _*_, _≤_, _<_}
 use mathlib.Core.Path.{_≡_}
 use mathlib.Core.List.{List, [], _++_}
 use lib.ListN.{length, take, drop}
-use Rattle.falcon_core.specs.declared.state.Supervisor.{Supervisor}
+use Rattle.falcon_core.specs.declared.supervisor.Supervisor.{Supervisor}
 use Rattle.sheet.specs.declared.many.Progress.{Progress}
 use Rattle.sheet.specs.Lines.{whole, joined, lineEnd, answers, statesAfter, fittingIn}
 use Rattle.columns.specs.Field.{fieldWidth}
 use Rattle.requests.specs.Kinds.{answeredBy}
 use Rattle.requests.specs.ByLine.{mostNeeded, needOf, replyOf}
-use Rattle.requests.specs.Line.{askedLine}
+use Rattle.requests.specs.Parse.{askedLine}
 
 -- the state after a line
 unfoldable pub afterLine : Supervisor → List ℕ → Supervisor

@@ -7,7 +7,7 @@ ghost use mathlib.Core.List.{_++_};
 ghost use lib.ListN.{length, drop};
 ghost use Rattle.sheet.specs.Lines.{lineEnd, Clear, blockWidth, keptWidth, keptOf};
 use columns::field::FIELD;
-use requests::line::MOST_FIELDS;
+use requests::parse::MOST_FIELDS;
 
 // The bytes that `find_newline` tries at once.
 const BLOCK: usize = 16;

@@ -4,7 +4,7 @@ ghost use Prim.Native.Nat.{_+_, _*_, _≤_};
 ghost use mathlib.Core.Path.{_≡_};
 ghost use mathlib.Core.List.{_++_, _∷_, []};
 ghost use lib.ListN.{length};
-ghost use Rattle.falcon_core.specs.State.{unopened};
+ghost use Rattle.falcon_core.specs.Supervisor.{unopened};
 ghost use Rattle.columns.specs.Field.{fieldWidth, put};
 ghost use Rattle.columns.specs.Line.{lineOf};
 ghost use Rattle.sheet.specs.Lines.{newline, whole, lastLine, linesOf};
@@ -13,17 +13,17 @@ use crate::entry::answer_flight;
 use crate::entry::answer_numbers;
 use crate::entry::answer_other;
 use crate::entry::lacks_room;
-use crate::legs::here_place;
-use crate::legs::legs_from;
-use crate::legs::next_place;
 use crate::lines::find_newline;
 use columns::field::FIELD;
 use columns::field::write_numbers;
 use falcon_core::calls::Answer;
-use falcon_core::state::Supervisor;
+use falcon_core::supervisor::Supervisor;
+use falcon_guidance::legs::here_place;
+use falcon_guidance::legs::legs_from;
+use falcon_guidance::legs::next_place;
 use requests::kinds::Kind;
-use requests::line::MOST_FIELDS;
-use requests::line::asked;
+use requests::parse::MOST_FIELDS;
+use requests::parse::asked;
 
 // What was answered: the state after it, the bytes read and written, and the lines.
 pub struct Progress {

@@ -1,9 +1,9 @@
 // The tick with no text: a day flown again and again, and the sum of its answers. `harness/bench tick` times it beside the Rust's `step`.
-use falcon_core::state::Supervisor;
-use falcon_failsafe::state::Opening;
+use falcon_core::supervisor::Supervisor;
+use falcon_failsafe::flight::Opening;
 use falcon_flight::tick::TickAnswer;
 use falcon_flight::tick::tick;
-use falcon_guidance::mission::legs;
+use falcon_guidance::legs::legs;
 use falcon_guidance::state::Point;
 use falcon_guidance::state::Tick;
 use libc::STDOUT_FILENO;

@@ -2,7 +2,7 @@ use native.Mathlib.Omega.{arith}
 use mathlib.Core.Path.{sym}
 use lib.Seq.{length-take-le}
 use borrow.Author.Needs.{needs}
-use Rattle.falcon_core.specs.State.{unopened}
+use Rattle.falcon_core.specs.Supervisor.{unopened}
 use Rattle.sheet.specs.Lines.{linesOf}
 use Rattle.sheet.proofs.Replies.{written-most}
 use Rattle.rows.proofs.write_answers.Statement.{statement}

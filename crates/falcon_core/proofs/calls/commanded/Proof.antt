@@ -6,7 +6,7 @@ use Rattle.relay_fsm.specs.declared.FlightFsm.{FlightFsm}
 use Rattle.relay_fsm.specs.Fsm.{onOf}
 use Rattle.relay_preflight.specs.declared.TableVerdict.{TableVerdict}
 use Rattle.relay_preflight.specs.Verdict.{firstBlockerOf}
-use Rattle.falcon_failsafe.specs.declared.state.FlightSupervisor.{FlightSupervisor}
+use Rattle.falcon_failsafe.specs.declared.flight.FlightSupervisor.{FlightSupervisor}
 use Rattle.falcon_core.specs.Calls.{allowedOf, commandedBy}
 use borrow.Author.Needs.{needs}
 use Rattle.falcon_core.proofs.calls.commanded.Statement.{statement}

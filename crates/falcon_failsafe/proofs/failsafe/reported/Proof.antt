@@ -4,8 +4,8 @@ use Rattle.relay_fsm.specs.declared.Mode.{Mode}
 use Rattle.relay_fsm.specs.declared.Event.the-variants.{Failsafe}
 use Rattle.relay_fsm.specs.declared.Gates.{Gates}
 use Rattle.relay_fsm.specs.Fsm.{onOf}
-use Rattle.falcon_failsafe.specs.declared.state.FlightSupervisor.{FlightSupervisor}
-use Rattle.falcon_failsafe.specs.State.{withMode}
+use Rattle.falcon_failsafe.specs.declared.flight.FlightSupervisor.{FlightSupervisor}
+use Rattle.falcon_failsafe.specs.Flight.{withMode}
 use Rattle.falcon_failsafe.specs.Failsafe.{withoutPosition, motorLost, reportedOf}
 use Rattle.falcon_failsafe.proofs.Events.{reported-is}
 use borrow.Author.Needs.{needs}

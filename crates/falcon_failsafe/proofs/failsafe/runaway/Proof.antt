@@ -8,7 +8,7 @@ use Rattle.relay_fsm.specs.declared.Event.the-variants.{Terminate}
 use Rattle.relay_fsm.specs.declared.Gates.{Gates}
 use Rattle.relay_fsm.specs.Mode.{isAirborneOf}
 use Rattle.relay_fsm.specs.Fsm.{onOf}
-use Rattle.falcon_failsafe.specs.declared.state.FailsafeState.{FailsafeState}
+use Rattle.falcon_failsafe.specs.declared.flight.FailsafeState.{FailsafeState}
 use Rattle.falcon_failsafe.specs.Failsafe.{inFlight, tiltRunawayCycles, runawayEnough, runawayIn}
 use Rattle.falcon_failsafe.proofs.Events.{mode-if}
 use borrow.Author.Needs.{needs}

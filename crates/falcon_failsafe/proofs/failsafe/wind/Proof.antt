@@ -9,7 +9,7 @@ use Rattle.relay_fsm.specs.declared.Event.the-variants.{Failsafe}
 use Rattle.relay_fsm.specs.declared.Gates.{Gates}
 use Rattle.relay_fsm.specs.Mode.{isMode, isAirborneOf, rankOf}
 use Rattle.relay_fsm.specs.Fsm.{onOf}
-use Rattle.falcon_failsafe.specs.declared.state.FailsafeState.{FailsafeState}
+use Rattle.falcon_failsafe.specs.declared.flight.FailsafeState.{FailsafeState}
 use Rattle.falcon_failsafe.specs.Failsafe.{inFlight, windCycles, windCountOf, windEnough, windFails, withWind, windIn}
 use Rattle.falcon_failsafe.proofs.Events.{failsafed-if}
 use borrow.Author.Needs.{needs}

@@ -8,7 +8,7 @@ use borrow.Author.Tests.{ltb-true, ltb-false}
 use Rattle.columns.specs.Line.{writtenOver}
 use Rattle.falcon_core.specs.Calls.{answerOf, refusedOf}
 use Rattle.requests.specs.Kinds.{answeredBy}
-use Rattle.requests.specs.Line.{askedLine}
+use Rattle.requests.specs.Parse.{askedLine}
 use Rattle.requests.specs.ByLine.{needOf}
 use Rattle.requests.proofs.Buffer.{short-step, short-buffer, full-step, full-reply}
 use Rattle.sheet.specs.Entry.{lineAnswered}

@@ -13,7 +13,7 @@ use Rattle.falcon_core.specs.Calls.{answerFields, flightStepOf}
 use Rattle.columns.specs.Field.{put}
 use Rattle.requests.specs.declared.kinds.Kind.{Kind}
 use Rattle.requests.specs.Kinds.{answeredBy, flightAsks, kindAsks, KindListed}
-use Rattle.requests.specs.Line.{mostFields, askedLine}
+use Rattle.requests.specs.Parse.{mostFields, askedLine}
 use Rattle.requests.specs.ByLine.{needOf}
 use Rattle.sheet.specs.Entry.{Replied, FlightLeft}
 use Rattle.sheet.specs.Lines.{newline, whole}
@@ -23,7 +23,7 @@ use Rattle.sheet.proofs.LinesTurns.{Going, going-first, going-more, goi
 use Rattle.sheet.proofs.LinesFit.{Fitted, fitted-first, fits-next, fits-last}
 use Rattle.sheet.proofs.Replies.{line-fits, reply-room, reply-line, reply-long, lines-progress, lines-buffer}
 use Rattle.sheet.proofs.Entries.{stateOf, replied-as, replied-flight}
-use Rattle.sheet.proofs.LegPlaces.{place-at, legs-are}
+use Rattle.falcon_guidance.proofs.LegPlaces.{place-at, legs-are}
 use borrow.Author.Needs.{needs}
 use Rattle.sheet.proofs.many.answer_lines.Statement.{statement}
 use Rattle.sheet.proofs.many.answer_lines.Tie as tie

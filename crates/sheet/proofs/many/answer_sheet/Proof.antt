@@ -3,8 +3,8 @@ use native.Mathlib.Omega.{arith}
 use mathlib.Core.Path.{refl, ap, _∙_}
 use mathlib.Core.List.{List}
 use lib.ListN.{length, take, drop}
-use Rattle.falcon_core.specs.declared.state.Supervisor.{Supervisor}
-use Rattle.falcon_core.specs.State.{unopened}
+use Rattle.falcon_core.specs.declared.supervisor.Supervisor.{Supervisor}
+use Rattle.falcon_core.specs.Supervisor.{unopened}
 use Rattle.sheet.specs.Lines.{whole, lastLine, linesOf}
 use Rattle.sheet.specs.Many.{fitting, replies, progressOf, answersOver}
 use Rattle.sheet.proofs.LinesTurns.{to-end}

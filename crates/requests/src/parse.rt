@@ -1,0 +1,60 @@
+// A line of bytes.
+ghost use Prim.Native.Nat.{_≤_};
+ghost use mathlib.Core.Path.{_≡_};
+ghost use lib.ListN.{length};
+ghost use Rattle.columns.specs.Field.{inRange};
+ghost use Rattle.columns.specs.Line.{readWithin};
+ghost use Rattle.requests.specs.Kinds.{Says};
+ghost use Rattle.requests.specs.Parse.{limitFields, mostFields, readingLine, askedLine};
+use crate::kinds::Kind;
+use crate::kinds::OtherCall;
+use crate::kinds::kind_of;
+use columns::field::FIELD;
+use columns::field::read_kind;
+use columns::line::LINE_FIELDS;
+use columns::line::LineRead;
+use columns::line::read_line;
+use falcon_core::calls::Answer;
+
+// The most fields of a line of any kind.
+pub const MOST_FIELDS: usize = LINE_FIELDS;
+
+// The bytes that a line of every kind may have.
+const ORDINARY: usize = FIELD * LINE_FIELDS;
+
+// How many fields a line of this kind may have.
+fn limit_fields(kind: u64) -> usize
+    ensures { λ r. ⌜ r ≡ limitFields (inRange kind) ⌝ }
+{
+    LINE_FIELDS
+}
+
+// How many fields a line may have. The kind is read only where a line has more than every kind may have.
+fn line_limit(line: &[u8]) -> usize
+    ensures { λ r. ⌜ (readWithin r (now (line .entry)) ≡ readingLine (now (line .entry))) × (r ≤ mostFields) ⌝ }
+{
+    if line.len() <= ORDINARY {
+        return LINE_FIELDS;
+    }
+    limit_fields(read_kind(line))
+}
+
+// What a line asks. The array takes its numbers.
+fn asked_into(line: &[u8], numbers: &mut [u32]) -> Kind
+    requires { ⌜ mostFields ≤ length (now numbers) ⌝ }
+    ensures { λ r. ⌜ Says r (now (numbers .exit)) (askedLine (now (line .entry))) ⌝ }
+{
+    let limit = line_limit(line);
+    let LineRead::Numbers(count) = read_line(line, limit, numbers) else {
+        return Kind::Other(OtherCall::Refused(Answer::NOT_A_LINE));
+    };
+    kind_of(&numbers[..count])
+}
+
+// The same with an array that has a place for each number of any line.
+pub fn asked(line: &[u8], numbers: &mut [u32; MOST_FIELDS]) -> Kind
+    ensures { λ r. ⌜ Says r (now (numbers .exit)) (askedLine (now (line .entry))) ⌝ }
+    ensures { λ _. ⌜ length (now (numbers .exit)) ≡ mostFields ⌝ }
+{
+    asked_into(line, numbers)
+}
