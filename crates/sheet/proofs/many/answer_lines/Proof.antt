@@ -1,6 +1,6 @@
 use Prim.Native.Nat.{ℕ, _+_, _-_, _≤_, _<_}
 use native.Mathlib.Omega.{arith}
-use mathlib.Core.Logic.{⊎-elim}
+use mathlib.Core.Logic.{inl, inr}
 use mathlib.Core.Path.{_≡_, refl, sym, ap, _∙_, subst}
 use mathlib.Core.List.{List, [], _∷_, _++_}
 use lib.ListN.{length, take, drop, length-map}
@@ -131,30 +131,30 @@ replied-is c =
     let s = stateOf (l .flight) (l .waypoints) (l .opened) (l .report-due) in
     let asked = c .before .asked in
     let long = l .inv .1 .1 .1 .1 in
-    ⊎-elim
-    (λ w.
-    let call = w .1 .given .0 .0 in
-    let told = w .11 in
-    let ns = told .last .1 .1 .1 .1 .1 .0 in
-    let of : FlightAnswered → Type 0 = λ a. FlightLeft a (told .result) ns in
-    let legs = legs-are (l .waypoints) long (l .flight .config) (l .flight .mission) (w .5 .result) (w .6 .result) (w .9 .result) (w .5 .ensures) (w .6 .ensures) (w .9 .ensures) in
-    let left = subst (λ (x : Legs). of (flightStepOf (l .flight) (l .opened) (l .report-due) x (flightAsks call))) legs (told .ensures) in
-    let is = sym (ap (kindAsks (asked .last .1 .0)) (w .1 .given .1)) ∙ asked .ensures .0 .0 in
-    let wide : length ns ≡ mostFields = told .kept .1 .1 .1 .1 .1 .0 ∙ asked .ensures .1 in (
-      replied-as _ (answeredBy s (askedLine line)) _ _ ns (m .numbers) answerFields (m .count) (replied-flight s call (told .result) ns left (omega (arith, wide))) (ap (answeredBy s) is)
-          (λ i. stateOf (w .15 i) (w .16 i) (w .17 i) (w .18 i)) (w .14) (w .19),
-      (ap (λ (x : List ℕ). length x) (w .14) ∙ wide, ap (λ (x : List Point). length x) (w .16) ∙ long),
-    ))
-    (λ w.
-    let other = w .4 in
-    let ns = other .last .1 .1 .0 in
-    let is = sym (ap (kindAsks (asked .last .1 .0)) (w .1 .given .1)) ∙ asked .ensures .0 .0 in
-    let wide : length ns ≡ mostFields = other .kept .1 .1 .0 ∙ asked .ensures .1 in (
-      replied-as _ (answeredBy s (askedLine line)) _ _ ns (m .numbers) (other .result .count) (m .count) (other .ensures) (ap (answeredBy s) is)
-          (λ i. stateOf (w .10 i) (w .11 i) (w .12 i) (w .13 i)) (w .9) (w .14),
-      (ap (λ (x : List ℕ). length x) (w .9) ∙ wide, ap (λ (x : List Point). length x) (w .11) ∙ (simp length-map at (other .ok .1 .1 .0 .1 .1 .1 .0 .1 .0 .1))),
-    ))
-    (m .came)
+    elim (m .came) [
+      | inl w ↦
+          let call = w .1 .given .0 .0 in
+          let told = w .11 in
+          let ns = told .last .1 .1 .1 .1 .1 .0 in
+          let of : FlightAnswered → Type 0 = λ a. FlightLeft a (told .result) ns in
+          let legs = legs-are (l .waypoints) long (l .flight .config) (l .flight .mission) (w .5 .result) (w .6 .result) (w .9 .result) (w .5 .ensures) (w .6 .ensures) (w .9 .ensures) in
+          let left = subst (λ (x : Legs). of (flightStepOf (l .flight) (l .opened) (l .report-due) x (flightAsks call))) legs (told .ensures) in
+          let is = sym (ap (kindAsks (asked .last .1 .0)) (w .1 .given .1)) ∙ asked .ensures .0 .0 in
+          let wide : length ns ≡ mostFields = told .kept .1 .1 .1 .1 .1 .0 ∙ asked .ensures .1 in (
+            replied-as _ (answeredBy s (askedLine line)) _ _ ns (m .numbers) answerFields (m .count) (replied-flight s call (told .result) ns left (omega (arith, wide))) (ap (answeredBy s) is)
+                (λ i. stateOf (w .15 i) (w .16 i) (w .17 i) (w .18 i)) (w .14) (w .19),
+            (ap (λ (x : List ℕ). length x) (w .14) ∙ wide, ap (λ (x : List Point). length x) (w .16) ∙ long),
+          )
+      | inr w ↦
+          let other = w .4 in
+          let ns = other .last .1 .1 .0 in
+          let is = sym (ap (kindAsks (asked .last .1 .0)) (w .1 .given .1)) ∙ asked .ensures .0 .0 in
+          let wide : length ns ≡ mostFields = other .kept .1 .1 .0 ∙ asked .ensures .1 in (
+            replied-as _ (answeredBy s (askedLine line)) _ _ ns (m .numbers) (other .result .count) (m .count) (other .ensures) (ap (answeredBy s) is)
+                (λ i. stateOf (w .10 i) (w .11 i) (w .12 i) (w .13 i)) (w .9) (w .14),
+            (ap (λ (x : List ℕ). length x) (w .9) ∙ wide, ap (λ (x : List Point). length x) (w .11) ∙ (simp length-map at (other .ok .1 .1 .0 .1 .1 .1 .0 .1 .0 .1))),
+          )
+    ]
 
 array-share-prefix-numbers : tie.Need-array-share-prefix-numbers Inv-loop μ-loop
 array-share-prefix-numbers c =
