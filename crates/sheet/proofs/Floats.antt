@@ -7,6 +7,7 @@ use mathlib.Core.List.{List, [], _∷_, _++_, map}
 use lib.ListN.{length, getD, take, drop, set, length-drop, length-map}
 use lib.Seq.{length-take-le}
 use Rattle.columns.proofs.LineTurns.{slice-take}
+use Rattle.requests.specs.Kinds.{listHead}
 
 module _ {A : Type 0} (f : ℕ → A) where
   -- one number more
@@ -40,11 +41,11 @@ take-front {A} (x ∷ l) r = ap {B = List A} (λ q. x ∷ q) (take-front l r)
 -- so many floats, read from a line's part
 pub lent-is :
     {A : Type 0} (f : ℕ → A) (ns : List ℕ) (m : ℕ) (d last : List A) →
-    2 + m ≤ length ns →
-    last ≡ map f (take (2 + m - 2) (drop 2 ns)) ++ drop (length (take (2 + m - 2) (drop 2 ns))) d →
-    take m last ≡ map f (drop 2 (take (2 + m) ns))
+    listHead + m ≤ length ns →
+    last ≡ map f (take (listHead + m - listHead) (drop listHead ns)) ++ drop (length (take (listHead + m - listHead) (drop listHead ns))) d →
+    take m last ≡ map f (drop listHead (take (listHead + m) ns))
 lent-is f ns m d last h e =
-    let z : 2 + m - 2 ≡ m = omega arith in
-    let q : take (2 + m - 2) (drop 2 ns) ≡ drop 2 (take (2 + m) ns) = ap (λ (k : ℕ). take k (drop 2 ns)) z ∙ sym (slice-take ns 2 m (omega arith)) in
-    let n : length (map f (drop 2 (take (2 + m) ns))) ≡ m = length-map (drop 2 (take (2 + m) ns)) f ∙ omega (arith, length-drop 2 (take (2 + m) ns), length-take-le (2 + m) ns h) in
-    rw (e, q) (ap (λ (k : ℕ). take k (map f (drop 2 (take (2 + m) ns)) ++ drop (length (drop 2 (take (2 + m) ns))) d)) (sym n) ∙ take-front (map f (drop 2 (take (2 + m) ns))) (drop (length (drop 2 (take (2 + m) ns))) d))
+    let z : listHead + m - listHead ≡ m = omega arith in
+    let q : take (listHead + m - listHead) (drop listHead ns) ≡ drop listHead (take (listHead + m) ns) = ap (λ (k : ℕ). take k (drop listHead ns)) z ∙ sym (slice-take ns listHead m (omega arith)) in
+    let n : length (map f (drop listHead (take (listHead + m) ns))) ≡ m = length-map (drop listHead (take (listHead + m) ns)) f ∙ omega (arith, length-drop listHead (take (listHead + m) ns), length-take-le (listHead + m) ns h) in
+    rw (e, q) (ap (λ (k : ℕ). take k (map f (drop listHead (take (listHead + m) ns)) ++ drop (length (drop listHead (take (listHead + m) ns))) d)) (sym n) ∙ take-front (map f (drop listHead (take (listHead + m) ns))) (drop (length (drop listHead (take (listHead + m) ns))) d))
