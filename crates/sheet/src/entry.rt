@@ -2,18 +2,14 @@
 ghost use mathlib.Core.Path.{_≡_};
 ghost use mathlib.Core.List.{map, _++_};
 ghost use Prim.Native.Nat.{_≤_};
-ghost use lib.Dec.{leb, ltb};
 ghost use lib.ListN.{length, take, drop};
 ghost use lib.Ieee.{binary32, ofBits};
 ghost use Rattle.falcon_guidance.specs.State.{pointNumbers, zoneNumbers};
 ghost use Rattle.falcon_core.specs.Calls.{answerFields, numbersOf, plans, points, zones, flightStepOf, stepOf};
-ghost use Rattle.columns.specs.Field.{inRange};
 ghost use Rattle.requests.specs.Kinds.{answeredBy, listFields, listLine, listFloats, flightAsks, otherAsks, kindAsks, Listed, KindListed};
 ghost use Rattle.requests.specs.Parse.{mostFields, askedLine};
-ghost use Rattle.requests.specs.ByLine.{needFields, needOf, lineStep, bufferAfter};
+ghost use Rattle.requests.specs.ByLine.{lineStep, bufferAfter};
 ghost use Rattle.sheet.specs.Entry.{lineAnswered, Replied, FlightLeft};
-use columns::field::FIELD;
-use columns::field::read_kind;
 use columns::field::write_numbers;
 use falcon_core::calls::Answer;
 use falcon_core::calls::Answered;
@@ -31,14 +27,9 @@ use relay_math::from_bits;
 use requests::kinds::FlightCall;
 use requests::kinds::Kind;
 use requests::kinds::OtherCall;
+use requests::need::is_short;
 use requests::parse::MOST_FIELDS;
 use requests::parse::asked;
-
-// The bytes of an answer.
-pub const ANSWER: usize = FIELD * Answer::FIELDS;
-
-// The bytes that the answer to a line of any kind needs at most.
-pub const MOST_NEED: usize = ANSWER;
 
 // The state after a line, and the refusal that its answer gives.
 pub struct LineAnswered {
@@ -56,40 +47,6 @@ pub(crate) struct LineReplied {
 pub(crate) struct FlightReplied {
     pub flight: FlightSupervisor,
     pub report_due: bool,
-}
-
-// How many fields the answer to a line of this kind needs.
-fn need_fields(kind: u64) -> usize
-    ensures { λ r. ⌜ r ≡ needFields (inRange kind) ⌝ }
-{
-    Answer::FIELDS
-}
-
-// How many bytes the answer to a line needs.
-fn need_of(line: &[u8]) -> usize
-    ensures { λ r. ⌜ r ≡ needOf (now (line .entry)) ⌝ }
-{
-    FIELD * need_fields(read_kind(line))
-}
-
-// Whether so many bytes are too few for the answer to a line. The kind is read only where that matters.
-fn is_short(line: &[u8], room: usize) -> bool
-    ensures { λ r. ⌜ r ≡ ltb room (needOf (now (line .entry))) ⌝ }
-{
-    if MOST_NEED <= room {
-        return false;
-    }
-    room < need_of(line)
-}
-
-// Whether so many bytes are too few for the answer to a line and a newline.
-pub(crate) fn lacks_room(line: &[u8], room: usize) -> bool
-    ensures { λ r. ⌜ r ≡ leb room (needOf (now (line .entry))) ⌝ }
-{
-    if MOST_NEED < room {
-        return false;
-    }
-    room <= need_of(line)
 }
 
 // The numbers as floats, from the start of `floats` on.

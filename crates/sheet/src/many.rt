@@ -12,7 +12,6 @@ ghost use Rattle.sheet.specs.Many.{fitting, EndsFitting, replies, progre
 use crate::entry::answer_flight;
 use crate::entry::answer_numbers;
 use crate::entry::answer_other;
-use crate::entry::lacks_room;
 use crate::lines::find_newline;
 use columns::field::FIELD;
 use columns::field::write_numbers;
@@ -22,6 +21,7 @@ use falcon_guidance::legs::here_place;
 use falcon_guidance::legs::legs_from;
 use falcon_guidance::legs::next_place;
 use requests::kinds::Kind;
+use requests::need::lacks_room;
 use requests::parse::MOST_FIELDS;
 use requests::parse::asked;
 

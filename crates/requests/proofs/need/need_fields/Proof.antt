@@ -1,7 +1,7 @@
 use Rattle.requests.proofs.Buffer.{need-is}
 use borrow.Author.Needs.{needs}
-use Rattle.sheet.proofs.entry.need_fields.Statement.{statement}
-use Rattle.sheet.proofs.entry.need_fields.Tie as tie
+use Rattle.requests.proofs.need.need_fields.Statement.{statement}
+use Rattle.requests.proofs.need.need_fields.Tie as tie
 
 returns : tie.Need-returns
 returns c = need-is _

@@ -2,11 +2,11 @@ use native.Mathlib.Omega.{arith}
 use mathlib.Core.Path.{sym, ap}
 use lib.Dec.{ltb}
 use borrow.Author.Tests.{le-ltb}
 use Rattle.requests.specs.ByLine.{needOf}
 use Rattle.requests.proofs.Buffer.{needs-most}
 use borrow.Author.Needs.{needs}
-use Rattle.sheet.proofs.entry.is_short.Statement.{statement}
-use Rattle.sheet.proofs.entry.is_short.Tie as tie
+use Rattle.requests.proofs.need.is_short.Statement.{statement}
+use Rattle.requests.proofs.need.is_short.Tie as tie
 
 returns : tie.Need-returns
 returns c =

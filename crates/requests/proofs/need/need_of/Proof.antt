@@ -1,9 +1,9 @@
 use native.Mathlib.Omega.{arith}
 use Rattle.columns.specs.Field.{inRange}
 use Rattle.requests.proofs.Buffer.{need-most, needs-kinded}
 use borrow.Author.Needs.{needs}
-use Rattle.sheet.proofs.entry.need_of.Statement.{statement}
-use Rattle.sheet.proofs.entry.need_of.Tie as tie
+use Rattle.requests.proofs.need.need_of.Statement.{statement}
+use Rattle.requests.proofs.need.need_of.Tie as tie
 
 read-kind-requires : tie.Need-read-kind-requires
 read-kind-requires c κs = search needs
