@@ -100,7 +100,7 @@ pointRefused s (plans p) = planRefused (s .flight) p
 unfoldable pub shapeRefusal : Request → ℕ
 shapeRefusal r = cond (miscounted r) wrongCount (cond (masksTooLarge r) outOfRange 0)
 
--- 1, 6 and 7, of a call that is no opening: by whether there was an opening, whether a report is due, and whether the call is one
+-- 1, 6 and 7, of a call that is no opening: by whether there was an opening, whether a report is due, and whether the call is a report
 unfoldable pub sequenceRefusal : Bool → Bool → Bool → ℕ
 sequenceRefusal opened due report =
     cond (not opened) noOpening (cond (due && not report) reportDue (cond (report && not due) noReportDue 0))

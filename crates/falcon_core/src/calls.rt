@@ -203,7 +203,7 @@ fn commanded(f: FlightSupervisor, ev: Event, level: bool, throttle_low: bool) ->
     next
 }
 
-// 1, 6 and 7, of a call that is no opening: whether there was an opening, whether a report is due, whether the call is one.
+// 1, 6 and 7, of a call that is no opening: by whether there was an opening, whether a report is due, and whether the call is a report.
 fn sequence_refusal(opened: bool, due: bool, report: bool) -> u32
     ensures { λ r. ⌜ r ≡ sequenceRefusal opened due report ⌝ }
 {

@@ -144,9 +144,11 @@ listHead = 2
 abbrev pub listFields : ℕ → List ℕ → ℕ
 listFields width ns = listHead + width * numberAt ns 1
 
+-- a line of points or zones has just these
 abbrev pub isList : ℕ → List ℕ → Bool
 isList width ns = eqb (length ns) (listFields width ns)
 
+-- its floats
 abbrev pub listFloats : List ℕ → List Float
 listFloats ns = map (ofBits binary32) (drop listHead ns)
 
@@ -171,18 +173,20 @@ requestOf ns =
 abbrev pub listLine : ℕ → List ℕ → List ℕ
 listLine width ns = take (listFields width ns) ns
 
--- what each case of `Kind` asks, the line's numbers being the first of these
+-- what a tick, a report or a command asks
 abbrev pub flightAsks : FlightCall → Request
 flightAsks (Ticks t) = ticks t
 flightAsks (Reports failed) = reports failed
 flightAsks (Commands ev level low) = commands ev level low
 
+-- what any other line asks, its numbers being the first of these
 abbrev pub otherAsks : List ℕ → OtherCall → Asked
 otherAsks ns (Refused n) = refuses n
 otherAsks ns (Opens o) = asks (opens o)
 otherAsks ns Points = asks (plans (points (listFloats (listLine pointNumbers ns))))
 otherAsks ns Zones = asks (plans (zones (listFloats (listLine zoneNumbers ns))))
 
+-- what each case of `Kind` asks
 abbrev pub kindAsks : List ℕ → Kind → Asked
 kindAsks ns (Flight call) = asks (flightAsks call)
 kindAsks ns (Other call) = otherAsks ns call

@@ -66,6 +66,7 @@ pub fn answer_lines(s: Supervisor, input: &[u8], out: &mut [u8]) -> Progress
     ensures unchanged { λ _. ⌜ now (input .exit) ≡ now (input .entry) ⌝ }
 {
     let mut numbers = [0u32; MOST_FIELDS];
+    // The state by its parts: ticks, reports and commands then copy no waypoints (docs/SPEED.md).
     let mut flight = s.flight;
     let mut waypoints = s.waypoints;
     let mut opened = s.opened;
