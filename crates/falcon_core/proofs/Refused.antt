@@ -90,3 +90,12 @@ accepted-passed s r e =
 pub passed-accepted : (s : Supervisor) (r : Request) → Passed s r → refusalOf s r ≡ 0
 unfolding refusalOf shapeRefusal stateRefusal
 passed-accepted s r p = rw (p .counted, p .in-range, p .in-sequence, p .admissible)
+
+-- ---- the table's rows 1, 6 and 7, of a call that is no opening
+
+-- before an opening 1; while a report is due 6, but for a report; for a report where none is due 7; else none of them
+pub sequence-table :
+    ((due report : Bool) → sequenceRefusal false due report ≡ 1)
+    × ((sequenceRefusal true true false ≡ 6) × ((sequenceRefusal true false true ≡ 7) × ((sequenceRefusal true true true ≡ 0) × (sequenceRefusal true false false ≡ 0))))
+unfolding sequenceRefusal
+sequence-table = ((λ due report. refl), (refl, (refl, (refl, refl))))
