@@ -9,8 +9,8 @@ use Rattle.falcon_core.specs.declared.calls.Answered.{Answered}
 use Rattle.falcon_core.specs.Calls.{Request, refusalOf, legsIn, afterOf, outputOf, answerOf, refusedOf, acceptedOf, stepOf}
 use Rattle.falcon_core.proofs.Answers.{step-refused, step-accepted}
 use Rattle.requests.specs.Kinds.{Asked, refuses, asks, answeredBy}
-use Rattle.requests.specs.ByLine.{askedWith, lineStep}
-use Rattle.call_lists.specs.Lists.{Call, byValues, byLine, callStep, accepted, requested, acceptedRequest}
+use Rattle.requests.specs.ByLine.{lineStep}
+use Rattle.call_lists.specs.Lists.{Call, byValues, byLine, askedOf, callStep, accepted, requested, acceptedRequest}
 
 -- the answer to a call, and what it accepted
 pub data Seen (s : Supervisor) : Answered → Option Request → Type 0 where
@@ -33,4 +33,4 @@ seen-asked s (asks r) = seen-by s r (refusalOf s r) refl
 pub seen : (s : Supervisor) (c : Call) → Seen s (callStep s c) (acceptedRequest s c)
 unfolding callStep acceptedRequest lineStep
 seen s (byValues r) = seen-asked s (asks r)
-seen s (byLine line out) = seen-asked s (askedWith line out)
+seen s (byLine line out) = seen-asked s (askedOf (byLine line out))

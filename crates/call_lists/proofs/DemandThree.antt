@@ -11,7 +11,7 @@ use lib.Dec.{T, leb, leb→le}
 use lib.Ieee.Fits.{and-l, and-r}
 use Rattle.relay_fsm.specs.declared.Mode.{Mode}
 use Rattle.relay_fsm.specs.declared.Mode.the-variants.{Disarmed, Terminated}
-use Rattle.relay_fsm.specs.Mode.{isMode, isAirborneOf, rankOf}
+use Rattle.relay_fsm.specs.Mode.{isMode, rankOf}
 use Rattle.relay_fsm.proofs.Finite.{isMode→eq, eq→isMode}
 use denote.Floats.{is-true}
 use Rattle.relay_batt.specs.declared.battery.Battery.{Battery}
@@ -23,7 +23,6 @@ use Rattle.falcon_core.specs.declared.supervisor.Supervisor.{Supervisor}
 use Rattle.falcon_core.specs.declared.calls.Answered.{Answered}
 use Rattle.falcon_failsafe.specs.Failsafe.{tiltedOf, runawayEnough}
 use Rattle.falcon_flight.specs.Milestone.{nearGroundOf}
-use Rattle.falcon_flight.specs.Tick.{tickOf}
 use Rattle.falcon_core.specs.Land.{landedOf, throughLandOf}
 use Rattle.falcon_core.specs.Calls.{Request, opens, ticks, reports, commands, plans, legsIn, flightAfter, afterOf, outputOf}
 use Rattle.falcon_core.proofs.Parts.{planned-mode}

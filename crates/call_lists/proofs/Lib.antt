@@ -1,3 +1,4 @@
 pub mod CallSeen
 pub mod PlaceHolds
+pub mod EveryPlace
 pub mod DemandThree

@@ -21,7 +21,6 @@ use Rattle.relay_batt.specs.Battery.{updateOf}
 use Rattle.relay_batt.specs.Battery.{openedOf as openedBatteryOf}
 use Rattle.relay_batt.specs.Config.{forOpeningVoltsOf}
 use Rattle.relay_batt.proofs.Stays.{critical-shown, opened-state, opened-flags, none-flags}
-use Rattle.falcon_guidance.specs.declared.state.Config.{Config}
 use Rattle.falcon_guidance.specs.declared.state.Tick.{Tick}
 use Rattle.falcon_failsafe.specs.declared.flight.Counts.{Counts}
 use Rattle.falcon_core.specs.declared.supervisor.Supervisor.{Supervisor}
@@ -33,7 +32,7 @@ use Rattle.falcon_failsafe.specs.Flight.{openedOf}
 use Rattle.falcon_core.specs.Supervisor.{unopened}
 use Rattle.falcon_failsafe.specs.Failsafe.{tiltedOf, runawayEnough, reportedOf}
 use Rattle.falcon_flight.specs.Tick.{tickOf}
-use Rattle.falcon_core.specs.Calls.{Request, opens, ticks, reports, commands, plans, dueAfter, refusalOf, legsIn, flightAfter, waypointsAfter, afterOf, outputOf, answerOf, refusedOf, acceptedOf}
+use Rattle.falcon_core.specs.Calls.{Request, opens, ticks, reports, commands, plans, refusalOf, legsIn, flightAfter, afterOf, outputOf, answerOf, refusedOf, acceptedOf}
 use Rattle.falcon_core.proofs.Parts.{planned-mode, planned-battery, planned-counts, after-config}
 use Rattle.falcon_core.proofs.Invariant.{start-sound, start-untilted}
 use Rattle.falcon_core.proofs.Stages.{tick-battery, report-battery, report-counts, command-battery, command-counts}

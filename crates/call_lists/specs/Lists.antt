@@ -14,6 +14,7 @@ use Rattle.falcon_core.specs.declared.supervisor.Supervisor.{Supervisor}
 use Rattle.falcon_core.specs.declared.calls.Answered.{Answered}
 use Rattle.falcon_core.specs.Supervisor.{unopened}
 use Rattle.falcon_core.specs.Calls.{Request, opens, ticks, reports, commands, plans, startOf, stepOf}
+use Rattle.falcon_core.specs.SoundState.{Lent}
 use Rattle.requests.specs.Kinds.{Asked, refuses, asks}
 use Rattle.requests.specs.ByLine.{askedWith, lineStep}
 
@@ -114,6 +115,11 @@ unfoldable pub placeFrom : Place → List Call → Place
 placeFrom p [] = p
 placeFrom p (c ∷ l) = placeFrom (nextPlace p c) l
 
+-- the answers to a list of calls
+unfoldable pub answersFrom : Place → List Call → List Answered
+answersFrom p [] = []
+answersFrom p (c ∷ l) = callStep (p .supervisor) c ∷ answersFrom (nextPlace p c) l
+
 -- "The first call gets the state with no opening": the place before the first call
 unfoldable pub start : Place
 start = record { supervisor = unopened; mode = Disarmed; config = none; battery = none; began = [] }
@@ -126,6 +132,16 @@ placeAt l = placeFrom start l
 abbrev pub latchOf : Option Battery → Bool
 latchOf none = false
 latchOf (some b) = b .est .critical .latched
+
+-- the floats lent by values are f32 values: in definitions a float may be one that no f32 holds. A line gives bits
+abbrev pub LentCall : Call → Type 0
+LentCall (byValues r) = Lent r
+LentCall (byLine line out) = Unit {0}
+
+-- those of a list of calls
+abbrev pub EachLent : List Call → Type 0
+EachLent [] = Unit {0}
+EachLent (c ∷ l) = LentCall c × EachLent l
 
 -- no accepted opening and no accepted command
 abbrev pub calm : Option Request → Bool

@@ -1,6 +1,5 @@
--- The battery of every state that calls lead to: its configuration is the opening's, and it is within document 01's bounds.
+-- The battery of a state that calls lead to: its configuration is the opening's, and a sound one is within document 01's bounds.
 use mathlib.Core.Path.{_≡_, _∙_, ap}
-use mathlib.Core.List.{List}
 use lib.Ieee.{Float}
 use Rattle.relay_batt.specs.declared.battery.Battery.{Battery}
 use Rattle.relay_batt.specs.Config.{capacityOf, capacityMah, forOpeningVoltsOf}
@@ -10,12 +9,9 @@ use Rattle.falcon_failsafe.specs.declared.flight.FlightSupervisor.{FlightSuperv
 use Rattle.falcon_core.specs.declared.supervisor.Supervisor.{Supervisor}
 use Rattle.falcon_failsafe.specs.Flight.{openedOf}
 use Rattle.falcon_core.specs.Supervisor.{unopened}
-use Rattle.falcon_core.specs.Calls.{Request, Planning, opens, ticks, reports, commands, plans, points, zones, commandedBy, refusalOf, legsIn, startOf, plannedOf, flightAfter, afterOf}
-use Rattle.falcon_core.specs.SoundState.{runOf}
-use Rattle.falcon_core.proofs.Refused.{run-keeps}
+use Rattle.falcon_core.specs.Calls.{Request, Planning, opens, ticks, reports, commands, plans, commandedBy, refusalOf, legsIn, startOf, plannedOf, flightAfter, afterOf}
 use Rattle.falcon_core.proofs.Parts.{reported-keeps}
 use Rattle.falcon_core.proofs.Stages.{tick-config, tick-battery}
-use Rattle.falcon_core.proofs.Invariant.{reachable-sound}
 
 -- the estimator's configuration is what the opening's volts give
 abbrev pub FromOpening : FlightSupervisor → Type 0
@@ -25,7 +21,8 @@ planned-from-opening : (f : FlightSupervisor) (p : Planning) → FromOpening f �
 unfolding plannedOf
 planned-from-opening f p k = k
 
-after-from-opening : (s : Supervisor) (r : Request) → FromOpening (s .flight) → refusalOf s r ≡ 0 → FromOpening (afterOf s r .flight)
+-- an accepted call
+pub after-from-opening : (s : Supervisor) (r : Request) → FromOpening (s .flight) → refusalOf s r ≡ 0 → FromOpening (afterOf s r .flight)
 unfolding afterOf flightAfter startOf commandedBy openedOf
 after-from-opening s (opens o) k e = opened-cfg (forOpeningVoltsOf (o .«low_batt_v»))
 after-from-opening s (ticks t) k e =
@@ -36,16 +33,13 @@ after-from-opening s (reports failed) k e = reported-keeps FromOpening (s .fligh
 after-from-opening s (commands ev level low) k e = k
 after-from-opening s (plans p) k e = planned-from-opening (s .flight) p k
 
-unopened-from-opening : FromOpening (unopened .flight)
+-- the state with no opening
+pub unopened-from-opening : FromOpening (unopened .flight)
 unfolding unopened openedOf
 unopened-from-opening = opened-cfg _
 
--- at every place of every list of calls
-pub from-opening : (l : List Request) → FromOpening (runOf unopened l .flight)
-from-opening l = run-keeps (λ (u : Supervisor). FromOpening (u .flight)) after-from-opening unopened l unopened-from-opening
-
--- a sound battery of the built-in pack
-sound-bounds : (b : Battery) (volts : Float) → b .est .cfg ≡ forOpeningVoltsOf volts → SoundBattery b → InBounds b
+-- "Bounds to be shown: charge 0..1, used 0..5000 mAh, estimated resistance 0.001..0.2": of a sound battery of the built-in pack
+pub sound-bounds : (b : Battery) (volts : Float) → b .est .cfg ≡ forOpeningVoltsOf volts → SoundBattery b → InBounds b
 sound-bounds b volts e k =
     let full : capacityOf (b .est .cfg) ≡ capacityMah = ap capacityOf e ∙ capacity-opening volts in
     record {
@@ -56,7 +50,3 @@ sound-bounds b volts e k =
       resistance-shown-bound = k .shown .resistance-shown;
       nothing-shown-bound = k .shown .nothing-shown;
     }
-
--- "Bounds to be shown: charge 0..1, used 0..5000 mAh, estimated resistance 0.001..0.2"
-pub battery-bounds : (l : List Request) → InBounds (runOf unopened l .flight .battery)
-battery-bounds l = sound-bounds (runOf unopened l .flight .battery) (runOf unopened l .flight .config .«low_batt_v») (from-opening l) (reachable-sound l .battery)

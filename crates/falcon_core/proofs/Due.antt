@@ -1,6 +1,5 @@
 -- After which calls a report is due, and that it finds the mode airborne.
 use mathlib.Core.Bool.{Bool, true, false, not}
-use mathlib.Core.List.{List}
 use mathlib.Core.Logic.{_↔_}
 use mathlib.Core.Path.{_≡_, refl, sym, ap, _∙_, subst}
 use lib.Dec.{T}
@@ -17,9 +16,7 @@ use Rattle.falcon_core.specs.Supervisor.{unopened}
 use Rattle.falcon_flight.specs.Setpoint.{motorsOffOf}
 use Rattle.falcon_flight.specs.Tick.{afterMilestone, holdingOf, endedOf, tickOf}
 use Rattle.falcon_core.specs.Calls.{Request, opens, ticks, reports, commands, plans, dueAfter, reportDueAfter, refusalOf, legsIn, flightAfter, afterOf, outputOf, answerOf, acceptedOf, stepOf}
-use Rattle.falcon_core.specs.SoundState.{runOf}
 use Rattle.falcon_core.proofs.Answers.{step-accepted}
-use Rattle.falcon_core.proofs.Refused.{run-keeps}
 use Rattle.falcon_core.proofs.Parts.{answered-due, tick-flight}
 
 -- after an accepted call a report is due exactly where it answers a setpoint
@@ -91,7 +88,8 @@ tick-due f l t =
 abbrev pub DueAirborne : Supervisor → Type 0
 DueAirborne s = s .«report_due» ≡ true → T (isAirborneOf (s .flight .fsm .mode))
 
-after-due-airborne : (s : Supervisor) (r : Request) → DueAirborne s → refusalOf s r ≡ 0 → DueAirborne (afterOf s r)
+-- an accepted call
+pub after-due-airborne : (s : Supervisor) (r : Request) → DueAirborne s → refusalOf s r ≡ 0 → DueAirborne (afterOf s r)
 unfolding afterOf flightAfter outputOf
 after-due-airborne s (opens o) k e d = absurd (clash refl d)
 after-due-airborne s (ticks t) k e d = subst T (sym (sym (tick-due (s .flight) (legsIn s) t) ∙ d)) tt
@@ -99,10 +97,7 @@ after-due-airborne s (reports failed) k e d = absurd (clash refl d)
 after-due-airborne s (commands ev level low) k e d = absurd (clash refl d)
 after-due-airborne s (plans p) k e d = absurd (clash refl d)
 
-due-unopened : DueAirborne unopened
+-- the state with no opening
+pub due-unopened : DueAirborne unopened
 unfolding unopened
 due-unopened d = absurd (clash refl d)
-
--- at every place of every list of calls
-pub due-airborne : (l : List Request) → DueAirborne (runOf unopened l)
-due-airborne l = run-keeps DueAirborne after-due-airborne unopened l due-unopened

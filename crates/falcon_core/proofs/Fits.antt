@@ -1,7 +1,7 @@
 -- The floats of the state stay f32 values where those of the calls are.
 use Prim.Native.Nat.{ℕ, _+_, _*_}
 use mathlib.Core.Bool.{_||_}
-use mathlib.Core.List.{List, [], _∷_}
+use mathlib.Core.List.{List}
 use mathlib.Core.Path.{sym, subst}
 use lib.ListN.{getD}
 use lib.Ieee.{Float, nan, binary32, add, lt, le}
@@ -28,7 +28,7 @@ use Rattle.falcon_flight.specs.Milestone.{milestoneOf}
 use Rattle.falcon_hold.specs.Hold.{holdsOf, holdRestMs, holdRestS, holdBrakeMaxS, horizSpeedOf, brakePointOf, enteredOf, restOf, brakedOf, leftOf, keptOf, heldOf}
 use Rattle.falcon_flight.specs.Tick.{checkedOf, poweredOf, telemetryOf, sensedOf, afterBreach, afterRunaway, afterWind, afterMilestone, holdingOf, tickOf}
 use Rattle.falcon_core.specs.Calls.{Request, Planning, opens, ticks, reports, commands, plans, points, zones, commandedBy, legsIn, startOf, startPoints, pointsAfter, plannedOf, flightAfter, waypointsAfter, afterOf, stepOf}
-use Rattle.falcon_core.specs.SoundState.{runOf, FitPoint, FitZone, FitHold, FitFlight, FitOpening, FitTick, Lent, LentPlan, EachLent}
+use Rattle.falcon_core.specs.SoundState.{FitPoint, FitZone, FitHold, FitFlight, FitOpening, FitTick, Lent, LentPlan}
 use Rattle.falcon_core.proofs.Refused.{step-keeps}
 use Rattle.falcon_core.proofs.Parts.{cond-keeps, reported-keeps, tick-flight}
 use Rattle.falcon_core.proofs.Places.{filled-holds, replicate-holds, stored-filled, stored-zones-filled}
@@ -136,13 +136,3 @@ fits-step s r l k = step-keeps s r (λ (u : Supervisor). FitFlight (u .flight) (
 pub fits-unopened : FitFlight (unopened .flight) (unopened .waypoints)
 unfolding unopened
 fits-unopened = opened-fits _ (record { home = origin-fits; fence = zero-fits; cruise = zero-fits; volts = zero-fits })
-
--- a list of calls whose floats are f32 values
-pub run-fits : (s : Supervisor) (l : List Request) → EachLent l → FitFlight (s .flight) (s .waypoints) → FitFlight (runOf s l .flight) (runOf s l .waypoints)
-unfolding runOf
-run-fits s [] h k = k
-run-fits s (r ∷ l) h k = run-fits (stepOf s r .supervisor) l (h .1) (fits-step s r (h .0) k)
-
--- the same from the state with no opening
-pub fits-run : (l : List Request) → EachLent l → FitFlight (runOf unopened l .flight) (runOf unopened l .waypoints)
-fits-run l h = run-fits unopened l h fits-unopened

@@ -1,4 +1,4 @@
--- Every list of calls, refused ones among them, leads to sound states. Nothing is asked of the calls.
+-- Every call, refused or accepted, keeps a sound state sound. Nothing is asked of the calls.
 use Prim.Native.Nat.{ℕ, _+_, _-_, _≤_, _<_, min}
 use native.Mathlib.Decide.{decLt}
 use native.Mathlib.Omega.{arith}
@@ -8,7 +8,6 @@ use mathlib.Core.Option.{Option, none, some}
 use mathlib.Core.List.{List}
 use mathlib.Core.Path.{_≡_, refl, sym, ap, _∙_, subst}
 use lib.Dec.{T, eqb, ltb, leb, lit<, lit≤}
-use lib.ListN.{getD}
 use Rattle.relay_fsm.specs.declared.Mode.{Mode}
 use Rattle.relay_fsm.specs.declared.Mode.the-variants.{Mission as InMission}
 use Rattle.relay_fsm.specs.declared.Event.{Event}
@@ -45,9 +44,9 @@ use Rattle.falcon_failsafe.specs.Failsafe.{modeAfter, clearedOf, breachGives, b
 use Rattle.falcon_flight.specs.Milestone.{arrivedOf, milestoneGives, legOf, milestoneOf}
 use Rattle.falcon_flight.specs.Tick.{checkedOf, poweredOf, telemetryOf, sensedOf, afterBreach, afterRunaway, afterWind, afterMilestone, holdingOf, tickOf}
 use Rattle.falcon_core.specs.Calls.{Request, Planning, opens, ticks, reports, commands, plans, points, zones, planRefused, commandedBy, refusalOf, legsIn, startOf, startPoints, pointsAfter, plannedOf, flightAfter, waypointsAfter, afterOf, stepOf}
-use Rattle.falcon_core.specs.SoundState.{runOf, SoundChecks, SoundMission, SoundTilt, SoundFlight}
+use Rattle.falcon_core.specs.SoundState.{SoundChecks, SoundMission, SoundTilt, SoundFlight}
 use Rattle.falcon_guidance.proofs.Waypoints.{waypoint-within}
-use Rattle.falcon_core.proofs.Refused.{accepted-passed, step-keeps, run-keeps}
+use Rattle.falcon_core.proofs.Refused.{accepted-passed, step-keeps}
 use Rattle.falcon_core.proofs.Parts.{cond-keeps, reported-keeps, tick-flight}
 use Rattle.falcon_core.proofs.Places.{untouched, sound-loaded, sound-zones-loaded}
 
@@ -235,7 +234,8 @@ planned-sound f ps (points l) k e =
     record { checks = k .checks; mission = sound-loaded (f .config) l (rw t tt); zones = k .zones; tilt = k .tilt; battery = k .battery }
 planned-sound f ps (zones l) k e = record { checks = k .checks; mission = k .mission; zones = sound-zones-loaded l; tilt = k .tilt; battery = k .battery }
 
-after-sound : (s : Supervisor) (r : Request) → SoundFlight (s .flight) (s .waypoints) → refusalOf s r ≡ 0 → SoundFlight (afterOf s r .flight) (afterOf s r .waypoints)
+-- an accepted call
+pub after-sound : (s : Supervisor) (r : Request) → SoundFlight (s .flight) (s .waypoints) → refusalOf s r ≡ 0 → SoundFlight (afterOf s r .flight) (afterOf s r .waypoints)
 unfolding afterOf flightAfter waypointsAfter commandedBy
 after-sound s (opens o) k e = start-sound s o e
 after-sound s (ticks t) k e = tick-sound (s .flight) (s .waypoints) (legsIn s) t k
@@ -252,21 +252,6 @@ step-sound s r k = step-keeps s r (λ (u : Supervisor). SoundFlight (u .flight) 
 pub unopened-sound : SoundFlight (unopened .flight) (unopened .waypoints)
 unfolding unopened
 unopened-sound = opened-sound _ (record { required-below = lit< tt; passed-below = lit< tt })
-
--- so does every list of calls
-pub run-sound : (s : Supervisor) (l : List Request) → SoundFlight (s .flight) (s .waypoints) → SoundFlight (runOf s l .flight) (runOf s l .waypoints)
-run-sound s l k = run-keeps (λ (u : Supervisor). SoundFlight (u .flight) (u .waypoints)) after-sound s l k
-
--- every list of calls leads to a sound state
-pub reachable-sound : (l : List Request) → SoundFlight (runOf unopened l .flight) (runOf unopened l .waypoints)
-reachable-sound l = run-sound unopened l unopened-sound
-
--- "Every point in use is admissible."
-pub points-admissible :
-    (l : List Request) (i : ℕ) →
-    i < runOf unopened l .flight .mission .«wp_count» →
-    T (waypointAdmissibleOf (runOf unopened l .flight .config) (getD (runOf unopened l .waypoints) i nowhere))
-points-admissible l i h = reachable-sound l .mission .places .fit i h
 
 -- the point flown to is the active leg's, and admissible, where there are points
 pub current-admissible : (c : Config) (ps : List Point) (m : Mission) → SoundMission c ps m → 0 < m .«wp_count» → T (waypointAdmissibleOf c (currentWaypointOf c ps m))

@@ -1,8 +1,7 @@
--- What a refusal keeps and answers, what acceptance tells, and what every list of calls keeps.
+-- What a refusal keeps and answers, and what acceptance tells.
 use Prim.Native.Nat.{ℕ, zero, suc}
 use native.Mathlib.Omega.{arith}
 use mathlib.Core.Bool.{Bool, true, false, cond}
-use mathlib.Core.List.{List, [], _∷_}
 use mathlib.Core.Path.{_≡_, refl, sym, ap, _∙_}
 use Rattle.relay_preflight.specs.Table.{outstandingOf}
 use Rattle.relay_preflight.specs.Verdict.{firstBlockerOf}
@@ -11,7 +10,6 @@ use Rattle.falcon_core.specs.declared.calls.Output.the-variants.{Nothing
 use Rattle.falcon_core.specs.declared.calls.Answered.{Answered}
 use Rattle.falcon_core.specs.Refusals.{orElse, inadmissible}
 use Rattle.falcon_core.specs.Calls.{Request, miscounted, masksTooLarge, isOpening, isReport, pointRefused, shapeRefusal, sequenceRefusal, stateRefusal, refusalOf, afterOf, answerOf, refusedOf, acceptedOf, stepOf}
-use Rattle.falcon_core.specs.SoundState.{runOf}
 use Rattle.falcon_core.proofs.Answers.{step-refused, step-accepted}
 
 -- ---- refused calls
@@ -47,15 +45,6 @@ module _ (s : Supervisor) (r : Request) where
   -- what holds of the state and is kept by the call if accepted holds after it
   pub step-keeps : (P : Supervisor → Type 0) → P s → (refusalOf s r ≡ 0 → P (afterOf s r)) → P (stepOf s r .supervisor)
   step-keeps P = after-by P (refusalOf s r) refl
-
--- what holds of the state and is kept by every accepted call holds after every list of calls
-pub run-keeps :
-    (P : Supervisor → Type 0) →
-    ((s : Supervisor) (r : Request) → P s → refusalOf s r ≡ 0 → P (afterOf s r)) →
-    (s : Supervisor) (l : List Request) → P s → P (runOf s l)
-unfolding runOf
-run-keeps P h s [] k = k
-run-keeps P h s (r ∷ l) k = run-keeps P h (stepOf s r .supervisor) l (step-keeps s r P k (h s r k))
 
 -- ---- accepted calls
 

@@ -1,4 +1,4 @@
--- `soundOf` is true of every state that a list of calls leads to, and of f32 values it says no less than the record.
+-- `soundOf` is true of every sound state, and of f32 values it says no less than the record.
 use Prim.Native.Nat.{ℕ, zero, suc, _≤_, _<_}
 use native.Mathlib.Nat.{not-suc-le-zero}
 use native.Mathlib.Decide.{decLt}
@@ -34,8 +34,8 @@ use Rattle.falcon_guidance.specs.Mission.{waypointAdmissibleOf}
 use Rattle.falcon_guidance.specs.Zones.{noPlace}
 use Rattle.falcon_failsafe.specs.Failsafe.{tiltRunawayCycles}
 use Rattle.falcon_core.specs.Calls.{Request, stepOf}
-use Rattle.falcon_core.specs.SoundState.{runOf, Tidy, eachBelow, checksSoundOf, countsSoundOf, pointsSoundOf, legSoundOf, tiltSoundOf, zeroBits, zeroPoint, zeroZone, unusedSound, unusedSoundOf, soundTests, soundOf, SoundChecks, SoundMission, SoundZones, SoundTilt, SoundFlight, FitPoint, FitZone, FitFlight}
-use Rattle.falcon_core.proofs.Invariant.{step-sound, unopened-sound, run-sound, reachable-sound}
+use Rattle.falcon_core.specs.SoundState.{Tidy, eachBelow, checksSoundOf, countsSoundOf, pointsSoundOf, legSoundOf, tiltSoundOf, zeroBits, zeroPoint, zeroZone, unusedSound, unusedSoundOf, soundTests, soundOf, SoundChecks, SoundMission, SoundZones, SoundTilt, SoundFlight, FitPoint, FitZone, FitFlight}
+use Rattle.falcon_core.proofs.Invariant.{step-sound, unopened-sound}
 
 -- ---- tests of every number and of every entry
 
@@ -236,11 +236,3 @@ sound-unopened = sound-test unopened unopened-sound
 -- one call, refused or accepted, from any sound state of f32 values, reached or read back
 pub sound-step : (s : Supervisor) (r : Request) → FitFlight (s .flight) (s .waypoints) → T (soundOf s) → T (soundOf (stepOf s r .supervisor))
 sound-step s r f t = sound-test (stepOf s r .supervisor) (step-sound s r (test-sound s f t))
-
--- every list of calls, refused ones among them, with no word on the floats of the calls
-pub sound-run : (l : List Request) → T (soundOf (runOf unopened l))
-sound-run l = sound-test (runOf unopened l) (reachable-sound l)
-
--- every list of calls from any sound state of f32 values
-pub sound-run-from : (s : Supervisor) (l : List Request) → FitFlight (s .flight) (s .waypoints) → T (soundOf s) → T (soundOf (runOf s l))
-sound-run-from s l f t = sound-test (runOf s l) (run-sound s l (test-sound s f t))

@@ -1,7 +1,7 @@
 -- What is true of every state that a list of calls leads to: as one test of the state, made of named tests, and as records.
 use Prim.Native.Nat.{ℕ, zero, suc, _-_, _≤_, _<_}
 use mathlib.Core.Path.{_≡_}
-use mathlib.Core.Bool.{Bool, true, false, _&&_, _||_}
+use mathlib.Core.Bool.{Bool, true, _&&_, _||_}
 use mathlib.Core.List.{List, [], _∷_, _++_}
 use lib.Dec.{T, eqb, ltb, leb}
 use lib.ListN.{length, getD, set}
@@ -28,12 +28,7 @@ use Rattle.falcon_guidance.specs.State.{origin, noZone, nowhere, maxWaypoints, 
 use Rattle.falcon_guidance.specs.Mission.{waypointAdmissibleOf}
 use Rattle.falcon_guidance.specs.Zones.{noPlace}
 use Rattle.falcon_failsafe.specs.Failsafe.{tiltRunawayCycles}
-use Rattle.falcon_core.specs.Calls.{Request, Planning, opens, ticks, reports, commands, plans, points, zones, stepOf}
-
--- the state after a list of calls, first call first
-unfoldable pub runOf : Supervisor → List Request → Supervisor
-runOf s [] = s
-runOf s (r ∷ l) = runOf (stepOf s r .supervisor) l
+use Rattle.falcon_core.specs.Calls.{Request, Planning, opens, ticks, reports, commands, plans, points, zones}
 
 -- ---- an array of which the first `count` places are in use
 
@@ -208,8 +203,3 @@ Lent (ticks t) = FitTick t
 Lent (reports failed) = Unit {0}
 Lent (commands ev level low) = Unit {0}
 Lent (plans p) = LentPlan p
-
--- those of a list of calls
-abbrev pub EachLent : List Request → Type 0
-EachLent [] = Unit {0}
-EachLent (r ∷ l) = Lent r × EachLent l

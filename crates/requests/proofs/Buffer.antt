@@ -16,7 +16,7 @@ use Rattle.columns.specs.declared.field.FieldRead.the-variants.{Number, Bad}
 use Rattle.columns.specs.Field.{fieldWidth, inRange, kindOf}
 use Rattle.columns.specs.Line.{lineOf, writtenOver}
 use Rattle.columns.proofs.Writing.{length-line}
-use Rattle.requests.specs.Kinds.{Asked, answeredBy}
+use Rattle.requests.specs.Kinds.{answeredBy}
 use Rattle.requests.specs.Parse.{askedLine}
 use Rattle.falcon_core.proofs.Numbers.{numbers-count}
 use Rattle.requests.specs.ByLine.{answerWidth, needFields, mostNeeded, needOf, askedWith, lineStep, extraOf, replyNumbers, replyOf, bufferAfter}
@@ -95,10 +95,14 @@ module _ (s : Supervisor) (line out : List ℕ) (h : length out < needOf line) w
   short-buffer = simp (lt-ltb (length out) (needOf line) h)
 
 -- with what the line needs
+pub full-asked : (line out : List ℕ) → needOf line ≤ length out → askedWith line out ≡ askedLine line
+unfolding askedWith
+full-asked line out h = simp (le-ltb (length out) (needOf line) h)
+
 module _ (s : Supervisor) (line out : List ℕ) (h : needOf line ≤ length out) where
   pub full-step : answeredBy s (askedLine line) ≡ lineStep s line out
-  unfolding lineStep askedWith
-  full-step = simp (le-ltb (length out) (needOf line) h)
+  unfolding lineStep
+  full-step = ap (answeredBy s) (sym (full-asked line out h))
 
   pub full-buffer : replyOf (answeredBy s (askedLine line)) ++ drop (length (replyOf (answeredBy s (askedLine line)))) out ≡ bufferAfter s line out
   unfolding bufferAfter

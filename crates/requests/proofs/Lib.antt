@@ -1,2 +1,3 @@
 pub mod Asking
 pub mod Buffer
+pub mod Lent

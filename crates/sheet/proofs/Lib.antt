@@ -6,4 +6,5 @@ pub mod LinesCut
 pub mod LinesTurns
 pub mod LinesFit
 pub mod Replies
+pub mod CallsByLine
 pub mod Sheets
