@@ -1,8 +1,9 @@
 -- Lists of calls computed through the whole definition: demand 3's rules speak of something. No proof cites this file.
 use Prim.Native.Nat.{ℕ, zero, suc}
 use mathlib.Core.Bool.{Bool, true, false}
-use mathlib.Core.List.{List, [], _∷_, _++_}
+use mathlib.Core.List.{List, [], _∷_, _++_, map}
 use mathlib.Core.Path.{_≡_, refl}
+use lib.Count.{ones}
 use lib.ListN.{replicate}
 use lib.Ieee.{Float, binary32, ofBits}
 use Rattle.relay_fsm.specs.declared.Event.the-variants.{Arm, RequestTakeoff}
@@ -41,7 +42,7 @@ use Rattle.requests.specs.Parse.{limitFields, readingLine, askedLine}
 use Rattle.columns.specs.Field.{inRange, digits, start as fieldStart, spaced, readField, kindOf, column, columns, fieldOf, put}
 use Rattle.requests.specs.Kinds.{openingFrom, openingLine, readingFrom, batteryOk, tickFrom, tickOk, tickLine, reportLine, commandLine, pointsLine, zonesLine, requestOf}
 use Rattle.columns.specs.Line.{onto, before, fields, lengthOk, readWithin, lineOf, readingOf}
-use Rattle.call_lists.specs.Lists.{callStep, acceptedRequest, placeAfter, nextPlace, placeFrom, start, calmFrom, ticksFrom}
+use Rattle.call_lists.specs.Lists.{callStep, acceptedRequest, placeAfter, nextPlace, placeFrom, answersFrom, start, calmFrom, ticksFrom}
 use Rattle.call_lists.specs.Lists.{Call, byValues, byLine, Place, latchOf}
 
 -- home 0, fence 100, cruise 10, opening volts 14
@@ -89,6 +90,14 @@ tilted = tick (ofBits binary32 0x3fc0_0000) Nothing
 quiet : Call
 quiet = byValues (reports false)
 
+-- no reading
+calmly : Call
+calmly = tick zerof Nothing
+
+-- opened; the critical latch trips on the ground; armed and taking off
+tripped : List Call
+tripped = opening ∷ flat ∷ flat ∷ byValues (commands Arm true true) ∷ byValues (commands RequestTakeoff true true) ∷ []
+
 -- opened, armed and taking off; then a list of points that is refused and a line of no kind
 flying : List Call
 flying =
@@ -97,6 +106,28 @@ flying =
     ∷ byValues (commands RequestTakeoff true true)
     ∷ byValues (plans (points (zerof ∷ zerof ∷ [])))
     ∷ byLine (49 ∷ 50 ∷ []) (replicate 110 0)
+    ∷ []
+
+-- a line of these numbers, with a buffer of 110 bytes
+line : List ℕ → Call
+line ns = byLine (lineOf ns) (replicate 110 0)
+
+-- document 01's worked example: the lines of its input
+worked : List Call
+worked =
+    line (1 ∷ 0 ∷ 0 ∷ 0 ∷ 1120403456 ∷ 1092616192 ∷ 1096810496 ∷ 0 ∷ 0 ∷ 0 ∷ [])
+    ∷ line (4 ∷ 0 ∷ 1 ∷ 1 ∷ [])
+    ∷ line (4 ∷ 1 ∷ 1 ∷ 1 ∷ [])
+    ∷ line (2 ∷ replicate 17 0)
+    ∷ []
+
+-- and the numbers of its output
+answered : List (List ℕ)
+answered =
+    (0 ∷ 0 ∷ 0 ∷ 0 ∷ 0 ∷ 0 ∷ 0 ∷ 0 ∷ 0 ∷ 21 ∷ [])
+    ∷ (0 ∷ 1 ∷ 0 ∷ 0 ∷ 0 ∷ 0 ∷ 0 ∷ 0 ∷ 0 ∷ 21 ∷ [])
+    ∷ (0 ∷ 2 ∷ 0 ∷ 0 ∷ 0 ∷ 0 ∷ 0 ∷ 0 ∷ 0 ∷ 21 ∷ [])
+    ∷ (0 ∷ 2 ∷ 0 ∷ 0 ∷ 1 ∷ 0 ∷ 0 ∷ 3240099840 ∷ 0 ∷ 21 ∷ [])
     ∷ []
 
 -- the modes after each call
@@ -119,11 +150,15 @@ final : ℕ → List ℕ → ℕ
 final m [] = m
 final m (n ∷ l) = final n l
 
+-- document 01's worked example, by line; two ticks and not one: the latch is set before takeoff, the first tick after it leads to Rtl and the second to Land;
 -- the critical battery is seen to Rtl and then to Land, with the latch set from the second flat tick on; 49 tilted ticks fly on in Takeoff, 50 end in Terminated
 seen-in-lists :
-    (modes start (flying ++ (flat ∷ quiet ∷ flat ∷ quiet ∷ flat ∷ [])) ≡ 0 ∷ 1 ∷ 2 ∷ 2 ∷ 2 ∷ 2 ∷ 2 ∷ 6 ∷ 6 ∷ 5 ∷ [])
+    (map replyOf (answersFrom start worked) ≡ map lineOf answered)
+    × (modes start (tripped ++ (calmly ∷ quiet ∷ calmly ∷ [])) ≡ 0 ∷ 0 ∷ 0 ∷ 1 ∷ 2 ∷ 6 ∷ 6 ∷ 5 ∷ [])
+    × (latches start tripped ≡ false ∷ false ∷ true ∷ true ∷ true ∷ [])
+    × (modes start (flying ++ (flat ∷ quiet ∷ flat ∷ quiet ∷ flat ∷ [])) ≡ 0 ∷ 1 ∷ 2 ∷ 2 ∷ 2 ∷ 2 ∷ 2 ∷ 6 ∷ 6 ∷ 5 ∷ [])
     × (latches start (flying ++ (flat ∷ quiet ∷ flat ∷ [])) ≡ false ∷ false ∷ false ∷ false ∷ false ∷ false ∷ false ∷ true ∷ [])
     × (final 0 (modes start (flying ++ tumble 49)) ≡ 2)
     × (final 0 (modes start (flying ++ tumble 50)) ≡ 7)
-unfolding opening tick flat tilted quiet flying modes latches tumble final rootBy wholeRoot radicand dropped rounded ranged rootOf maxOf clampOf eventAt rowOf onOf allChecks bitOf withBitOf setOf legacyPassedOf failsOf failingMaskOf outstandingOf firstIn firstBlockerOf openedOf heardOf updateOf lostOf runOf defaultOf forOpeningVoltsOf capacityOf cellsOf sanitizeOf knots walk tableOf ocvSocCellOf noneOf shownOf newOf resetOf consumedOf bigStepOf blendOf rEstOf restOf socCoulombOf socOf withAmpsOf voltsOnlyOf updateAmpsOf updateVoltsOf tripOf shapeRefusal sequenceRefusal stateRefusal refusalOf commandedBy startOf startPoints plannedOf flightAfter waypointsAfter afterOf outputOf answerOf refusedOf acceptedOf stepOf numbersOf clearedOf breachOf breachGives breachedOf tiltedOf runawayEnough runawayCounted runawayGives runawayOf gustyOf windEnough windCounted windGives windOf reportedOf lengthOf distanceOf horizSpeedOf brakePointOf enteredOf holdRestOf brakedOf leftOf keptOf heldOf heightOf highOf nearHomeOf nearGroundOf distance3Of arrivedOf milestoneGives legOf advancedOf milestoneOf waypointAdmissibleOf pointAtOf triedOf allAdmissibleOf storedOf loadedOf loadedPointsOf waypointAtOf legWaypointOf currentWaypointOf legsOf outsideGeofenceOf geofenceSaneOf navRowsOf integrityRowsOf readinessRowsOf updatePreflightOf escTelemetryOf landingOf setpointOf commandedOf stateOpenedOf unopened checkedOf poweredOf telemetryOf sensedOf afterBreach afterRunaway afterWind afterMilestone holdingOf answeredOf endedOf tickOf givenOf goalOf bearingOf alongOf perpOf obstructsOf threatensOf tangentOf urgencyOf ringOf deflectedOf aroundOf aroundAllOf avoidOf zoneAtOf zonesKeptOf storedZonesOf loadedZonesOf askedLine askedWith lineStep replyOf bufferAfter inRange digits fieldStart spaced readField column columns fieldOf put openingFrom openingLine readingFrom batteryOk tickFrom tickOk tickLine reportLine commandLine pointsLine zonesLine requestOf onto before fields lengthOk readWithin lineOf readingOf callStep acceptedRequest placeAfter nextPlace placeFrom start calmFrom ticksFrom add sub mul div neg lt eq le ne ofBits ofInt round units isNan size toBits kindOf needFields needOf extraOf replyNumbers limitFields readingLine
-seen-in-lists = (refl, refl, refl, refl)
+unfolding opening tick flat calmly tripped tilted quiet flying line worked answered answersFrom modes latches tumble final rootBy wholeRoot radicand dropped rounded ranged rootOf maxOf clampOf eventAt rowOf onOf allChecks bitOf withBitOf setOf legacyPassedOf failsOf failingMaskOf outstandingOf firstIn firstBlockerOf openedOf heardOf updateOf lostOf runOf defaultOf forOpeningVoltsOf capacityOf cellsOf sanitizeOf knots walk tableOf ocvSocCellOf noneOf shownOf newOf resetOf consumedOf bigStepOf blendOf rEstOf restOf socCoulombOf socOf withAmpsOf voltsOnlyOf updateAmpsOf updateVoltsOf tripOf shapeRefusal sequenceRefusal stateRefusal refusalOf commandedBy startOf startPoints plannedOf flightAfter waypointsAfter afterOf outputOf answerOf refusedOf acceptedOf stepOf numbersOf clearedOf breachOf breachGives breachedOf tiltedOf runawayEnough runawayCounted runawayGives runawayOf gustyOf windEnough windCounted windGives windOf reportedOf lengthOf distanceOf horizSpeedOf brakePointOf enteredOf holdRestOf brakedOf leftOf keptOf heldOf heightOf highOf nearHomeOf nearGroundOf distance3Of arrivedOf milestoneGives legOf advancedOf milestoneOf waypointAdmissibleOf pointAtOf triedOf allAdmissibleOf storedOf loadedOf loadedPointsOf waypointAtOf legWaypointOf currentWaypointOf legsOf outsideGeofenceOf geofenceSaneOf navRowsOf integrityRowsOf readinessRowsOf updatePreflightOf escTelemetryOf landingOf setpointOf commandedOf stateOpenedOf unopened checkedOf poweredOf telemetryOf sensedOf afterBreach afterRunaway afterWind afterMilestone holdingOf answeredOf endedOf tickOf givenOf goalOf bearingOf alongOf perpOf obstructsOf threatensOf tangentOf urgencyOf ringOf deflectedOf aroundOf aroundAllOf avoidOf zoneAtOf zonesKeptOf storedZonesOf loadedZonesOf askedLine askedWith lineStep replyOf bufferAfter inRange digits fieldStart spaced readField column columns fieldOf put openingFrom openingLine readingFrom batteryOk tickFrom tickOk tickLine reportLine commandLine pointsLine zonesLine requestOf onto before fields lengthOk readWithin lineOf readingOf callStep acceptedRequest placeAfter nextPlace placeFrom start calmFrom ticksFrom add sub mul div neg lt eq le ne ofBits ofInt round units isNan size toBits kindOf needFields needOf extraOf replyNumbers limitFields readingLine ones
+seen-in-lists = (refl, refl, refl, refl, refl, refl, refl)
