@@ -9,26 +9,19 @@ use lib.Dec.{eqb·suc-zero}
 use lib.ListN.{length}
 use lib.Ieee.{Float}
 use Rattle.falcon_guidance.specs.declared.state.Point.{Point}
-use Rattle.falcon_guidance.specs.declared.state.Legs.{Legs}
-use Rattle.falcon_guidance.specs.declared.state.Tick.{Tick}
 use Rattle.falcon_core.specs.declared.supervisor.Supervisor.{Supervisor}
-use Rattle.falcon_flight.specs.declared.tick.Ticked.{Ticked}
-use Rattle.falcon_core.specs.declared.calls.Output.the-variants.{Nothing, Ticks}
-use Rattle.falcon_guidance.specs.declared.state.Mission.{Mission}
-use Rattle.falcon_failsafe.specs.Flight.{withMission, withZones}
+use Rattle.falcon_core.specs.declared.calls.Output.the-variants.{Nothing}
+use Rattle.falcon_failsafe.specs.Flight.{withZones}
 use Rattle.falcon_guidance.specs.State.{pointNumbers, zoneNumbers}
-use Rattle.falcon_guidance.specs.Mission.{noPoints, triedOf, allAdmissibleOf, loadedOf, loadedPointsOf}
+use Rattle.falcon_guidance.specs.Mission.{noPoints, triedOf, allAdmissibleOf}
 use Rattle.falcon_guidance.specs.declared.state.Zones.{Zones}
 use Rattle.falcon_guidance.specs.Zones.{loadedZonesOf}
-use Rattle.falcon_flight.specs.Tick.{tickOf}
-use Rattle.relay_fsm.specs.declared.Event.{Event}
 use Rattle.falcon_failsafe.specs.declared.flight.FlightSupervisor.{FlightSupervisor}
 use Rattle.falcon_failsafe.specs.declared.flight.Opening.{Opening}
 use Rattle.falcon_failsafe.specs.Flight.{openedOf}
-use Rattle.falcon_failsafe.specs.Failsafe.{reportedOf}
-use Rattle.falcon_core.specs.Calls.{Request, opens, ticks, reports, commands, plans, points, zones, miscounted, masksTooLarge, isOpening, isReport}
+use Rattle.falcon_core.specs.Calls.{Request, opens, plans, points, zones, miscounted, masksTooLarge, isOpening, isReport}
 use Rattle.falcon_core.specs.Refusals.{wrongCount, outOfRange, inadmissible}
-use Rattle.falcon_core.specs.Calls.{commandedBy, dueAfter, shapeRefusal, sequenceRefusal, stateRefusal, refusalOf, legsIn, startOf, startPoints, plannedOf, flightAfter, waypointsAfter, outputOf, afterOf, refusedOf, acceptedOf, stepOf, withFlight}
+use Rattle.falcon_core.specs.Calls.{shapeRefusal, sequenceRefusal, stateRefusal, refusalOf, legsIn, startOf, startPoints, plannedOf, flightAfter, waypointsAfter, outputOf, afterOf, refusedOf, acceptedOf, stepOf, withFlight, withPoints}
 
 -- a refusal that fits is answered and keeps the state
 pub step-refused : (s : Supervisor) (r : Request) (n : ℕ) → refusalOf s r ≡ suc n → stepOf s r ≡ refusedOf s (suc n)
@@ -122,20 +115,19 @@ in-sequence false due q = absurd (omega arith)
 
 -- an accepted list, from what its parts are
 pub points-accepted :
-    (s : Supervisor) (l : List Float) (m : Mission) (ps : List Point) (ok : Bool) →
-    m ≡ loadedOf l →
-    ps ≡ loadedPointsOf l →
+    (s next : Supervisor) (l : List Float) (ok : Bool) →
+    next ≡ withPoints s l →
     ok ≡ allAdmissibleOf (s .flight .config) l (triedOf l) →
     length l % pointNumbers ≡ 0 →
     sequenceRefusal (s .opened) (s .«report_due») false ≡ 0 →
     not ok ≡ false →
-    acceptedOf (withFlight s (withMission (s .flight) m) ps (s .«report_due»)) Nothing ≡ stepOf s (plans (points l))
+    acceptedOf next Nothing ≡ stepOf s (plans (points l))
 unfolding refusalOf stateRefusal afterOf flightAfter waypointsAfter plannedOf outputOf
-points-accepted s l m ps ok em ep eo c q b =
+points-accepted s next l ok e eo c q b =
     let a : allAdmissibleOf (s .flight .config) l (triedOf l) ≡ true = sym eo ∙ not-false ok b in
     let h : refusalOf s (plans (points l)) ≡ 0 = rw (points-shape l c, q, a) in
     let d = in-sequence (s .opened) (s .«report_due») q .1 in
-    rw (step-accepted s (plans (points l)) h, em, ep, d)
+    rw (step-accepted s (plans (points l)) h, e, d)
 
 -- accepted zones, from what their parts are
 pub zones-accepted :

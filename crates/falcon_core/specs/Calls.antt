@@ -245,6 +245,10 @@ flightStepOf f opened due l r =
 abbrev pub withFlight : Supervisor → FlightSupervisor → List Point → Bool → Supervisor
 withFlight s f ps due = record { flight = f; waypoints = ps; opened = s .opened; «report_due» = due }
 
+-- the state with this list of waypoints for the old one
+abbrev pub withPoints : Supervisor → List Float → Supervisor
+withPoints s l = withFlight s (withMission (s .flight) (loadedOf l)) (loadedPointsOf l) (s .«report_due»)
+
 -- the answer with the state's other parts as they were
 abbrev pub besideOf : Supervisor → FlightAnswered → Answered
 besideOf s a = record { supervisor = withFlight s (a .flight) (s .waypoints) (a .«report_due»); answer = a .answer }

@@ -1,7 +1,7 @@
 // The calls by lent values. Each takes the state and gives the state after it with its answer.
 ghost use mathlib.Core.Path.{_≡_};
 ghost use Rattle.falcon_core.specs.Calls.{opens, ticks, reports, commands, plans, points, zones, sequenceRefusal, allowedOf, commandedBy, dueAfter, answerOf, refusedOf, acceptedOf};
-ghost use Rattle.falcon_core.specs.Calls.{stepOf, flightRefusedOf, flightAcceptedOf, noLegs, flightStepOf, besideOf, flag, numbersOf};
+ghost use Rattle.falcon_core.specs.Calls.{stepOf, flightRefusedOf, flightAcceptedOf, noLegs, flightStepOf, besideOf, withPoints, flag, numbersOf};
 use crate::supervisor::Supervisor;
 use falcon_failsafe::failsafe::reported;
 use falcon_failsafe::flight::FlightSupervisor;
@@ -311,6 +311,20 @@ fn beside(s: Supervisor, told: FlightAnswered) -> Answered
     }
 }
 
+// The state with this list of waypoints for the old one.
+fn with_points(s: Supervisor, lent: &[f32]) -> Supervisor
+    ensures { λ r. ⌜ r ≡ withPoints s (now (lent .entry)) ⌝ }
+{
+    let mission = loaded(lent);
+    let waypoints = loaded_points(lent);
+    let mut flight = s.flight;
+    flight.mission = mission;
+    let mut next = s;
+    next.flight = flight;
+    next.waypoints = waypoints;
+    next
+}
+
 impl Supervisor {
     // Opens the supervisor anew; taken at any time.
     pub fn opening(self, o: Opening) -> Answered
@@ -382,16 +396,10 @@ impl Supervisor {
             return refused(self, refusal);
         }
         let config = self.flight.config;
+        let next = with_points(self, lent);
         if !tried_admissible(config, lent) {
             return refused(self, Answer::INADMISSIBLE);
         }
-        let mission = loaded(lent);
-        let waypoints = loaded_points(lent);
-        let mut flight = self.flight;
-        flight.mission = mission;
-        let mut next = self;
-        next.flight = flight;
-        next.waypoints = waypoints;
         accepted(next, Output::Nothing)
     }
 

@@ -20,6 +20,9 @@ refused-requires-2 c κs = search needs
 returns-2 : tie.Need-returns-2
 returns-2 c = (c .refused2 .ensures ∙ points-unsequenced (c .before .before .before .before .before .args .self) (c .before .before .before .before .before .args .lent .now) _ (c .before .before .before .if1 .left) (c .before .before .sequence-refusal .ensures) (c .before .if2 .taken), refl)
 
+with-points-requires : tie.Need-with-points-requires
+with-points-requires c κs = search needs
+
 tried-admissible-requires : tie.Need-tried-admissible-requires
 tried-admissible-requires c κs = search needs
 
@@ -27,19 +30,13 @@ refused-requires-3 : tie.Need-refused-requires-3
 refused-requires-3 c κs = search needs
 
 returns-3 : tie.Need-returns-3
-returns-3 c = (c .refused3 .ensures ∙ point-refused (c .before .before .before .before .before .before .before .before .args .self) (c .before .before .before .before .before .before .before .before .args .lent .now) _ (c .before .before .tried-admissible .ensures) (c .before .before .before .before .before .before .if1 .left) (sym (c .before .before .before .before .before .sequence-refusal .ensures) ∙ c .before .before .before .before .if2 .left) (c .before .if3 .taken), refl)
-
-loaded-requires : tie.Need-loaded-requires
-loaded-requires c κs = search needs
-
-loaded-points-requires : tie.Need-loaded-points-requires
-loaded-points-requires c κs = search needs
+returns-3 c = (c .refused3 .ensures ∙ point-refused (c .before .before .before .before .before .before .before .before .before .args .self) (c .before .before .before .before .before .before .before .before .before .args .lent .now) _ (c .before .before .tried-admissible .ensures) (c .before .before .before .before .before .before .before .if1 .left) (sym (c .before .before .before .before .before .before .sequence-refusal .ensures) ∙ c .before .before .before .before .before .if2 .left) (c .before .if3 .taken), refl)
 
 accepted-requires : tie.Need-accepted-requires
 accepted-requires c κs = search needs
 
 returns-4 : tie.Need-returns-4
-returns-4 c = (c .accepted .ensures ∙ points-accepted (c .before .before .before .before .before .before .before .before .before .before .before .args .self) (c .before .before .before .before .before .before .before .before .before .before .before .args .lent .now) _ _ _ (c .before .before .before .loaded .ensures) (c .before .before .loaded-points .ensures) (c .before .before .before .before .before .tried-admissible .ensures) (c .before .before .before .before .before .before .before .before .before .if1 .left) (sym (c .before .before .before .before .before .before .before .before .sequence-refusal .ensures) ∙ c .before .before .before .before .before .before .before .if2 .left) (c .before .before .before .before .if3 .left), refl)
+returns-4 c = (c .accepted .ensures ∙ points-accepted (c .before .before .before .before .before .before .before .before .before .args .self) _ (c .before .before .before .before .before .before .before .before .before .args .lent .now) _ (c .before .before .before .with-points .ensures) (c .before .before .tried-admissible .ensures) (c .before .before .before .before .before .before .before .if1 .left) (sym (c .before .before .before .before .before .before .sequence-refusal .ensures) ∙ c .before .before .before .before .before .if2 .left) (c .before .if3 .left), refl)
 
 pub set-mission-waypoints-spec : {M : Type 1} → statement M
 set-mission-waypoints-spec =
@@ -50,10 +47,9 @@ set-mission-waypoints-spec =
     sequence-refusal-requires
     refused-requires-2
     returns-2
+    with-points-requires
     tried-admissible-requires
     refused-requires-3
     returns-3
-    loaded-requires
-    loaded-points-requires
     accepted-requires
     returns-4)
