@@ -1,11 +1,11 @@
 -- The promises of the state at every place of every list of calls, by line and by values, refused ones among them. Assumes nothing.
 use Prim.Native.Nat.{ℕ, _<_, _≤_}
 use native.Mathlib.Omega.{arith}
-use mathlib.Core.Bool.{true}
+use mathlib.Core.Bool.{true, cond}
 use mathlib.Core.List.{List, [], _∷_}
 use mathlib.Core.Logic.{_↔_}
-use mathlib.Core.Option.{Option}
-use mathlib.Core.Path.{_≡_, refl, sym, _∙_, subst}
+use mathlib.Core.Option.{Option, none}
+use mathlib.Core.Path.{_≡_, refl, sym, ap, _∙_, subst}
 use lib.Dec.{T}
 use lib.ListN.{length, getD}
 use Rattle.relay_fsm.specs.declared.Mode.{Mode}
@@ -33,7 +33,7 @@ use Rattle.requests.specs.Parse.{askedLine}
 use Rattle.requests.specs.ByLine.{needOf, askedWith, lineStep}
 use Rattle.requests.proofs.Buffer.{full-asked}
 use Rattle.requests.proofs.Lent.{LentAsked, line-lent}
-use Rattle.call_lists.specs.Lists.{Call, byValues, byLine, askedOf, callStep, acceptedRequest, Place, placeAfter, nextPlace, placeFrom, placeAt, start, LentCall, EachLent}
+use Rattle.call_lists.specs.Lists.{Call, byValues, byLine, askedOf, callStep, accepted, requested, acceptedRequest, Place, placeAfter, nextPlace, placeFrom, placeAt, start, LentCall, EachLent}
 use Rattle.call_lists.proofs.CallSeen.{Seen, refused, accepts, seen}
 use Rattle.call_lists.proofs.PlaceHolds.{place-holding, start-holding}
 
@@ -46,7 +46,9 @@ pub line-is-values :
     → askedLine line ≡ asks r
     → (callStep s (byLine line out) ≡ callStep s (byValues r)) × (acceptedRequest s (byLine line out) ≡ acceptedRequest s (byValues r))
 unfolding callStep acceptedRequest lineStep
-line-is-values s line out r h e = let k : askedWith line out ≡ asks r = full-asked line out h ∙ e in (rw k, rw k)
+line-is-values s line out r h e =
+    let k : askedWith line out ≡ asks r = full-asked line out h ∙ e in
+    (ap (answeredBy s) k, ap (λ (a : Asked). cond (accepted (answeredBy s a)) (requested a) none) k)
 
 -- ---- what every accepted call keeps
 
