@@ -10,6 +10,7 @@ use Rattle.columns.specs.Line.{Reading, countOf, lengthOk}
 use Rattle.columns.proofs.LineAgain.{length-ok, length-none, length-uneven, length-long}
 use Rattle.columns.proofs.LineOver.{bad-answer, bad-over, few-answer, few-over, room-answer, room-over}
 use Rattle.columns.proofs.LineTurns.{ReadTo, read-first, read-next, read-bad, read-last}
+use borrow.Author.Needs.{needs}
 use Rattle.columns.proofs.line.read_line.Statement.{statement}
 use Rattle.columns.proofs.line.read_line.Tie as tie
 
@@ -20,15 +21,6 @@ abbrev μ-loop : tie.MeasureT-loop
 μ-loop line limit numbers₀ n count at₀ k₀ numbers at k = count - k
 
 -- lengths and places
-some : (n : ℕ) → (n ≡ 0 → ⊥) → 0 < n
-some n h = omega arith
-
-most : (n limit : ℕ) → n % fieldWidth ≡ 0 → n / fieldWidth ≤ limit → n ≤ fieldWidth * limit
-most n limit h k = omega arith
-
-long : (n limit : ℕ) → limit < n / fieldWidth → fieldWidth * limit < n
-long n limit h = omega arith
-
 whole : (n : ℕ) → fieldWidth * (n / fieldWidth) ≤ n
 whole n = omega arith
 
@@ -40,9 +32,6 @@ place k count room long h l e = omega arith
 
 less : (k count : ℕ) → k < count → count - (k + 1) < count - k
 less k count h = omega arith
-
-ok : (n limit : ℕ) → (n ≡ 0 → ⊥) → n % fieldWidth ≡ 0 → n / fieldWidth ≤ limit → lengthOk limit n ≡ true
-ok n limit h e l = length-ok limit n (some n h) e (most n limit e l)
 
 returns : tie.Need-returns Inv-loop μ-loop
 returns c =
@@ -59,20 +48,24 @@ returns-2 c =
 returns-3 : tie.Need-returns-3 Inv-loop μ-loop
 returns-3 c =
     let a = c .before .before .before .before .before .args in
-    let bad = length-long (a .limit) _ (long _ _ (c .if3 .taken)) in
+    let bad = length-long (a .limit) (length (a .line .now)) (omega (arith, c .if3 .taken)) in
     (bad-answer (a .limit) (a .line .now) (a .numbers .now) _ bad, bad-over (a .limit) (a .line .now) (a .numbers .now) bad)
 
 returns-4 : tie.Need-returns-4 Inv-loop μ-loop
 returns-4 c =
     let a = c .before .before .before .before .before .before .args in
-    let good = ok _ _ (c .before .before .before .if1 .left) (c .before .before .if2 .left) (c .before .if3 .left) in
-    (few-answer (a .limit) (a .line .now) (a .numbers .now) good (c .if4 .taken), few-over (a .limit) (a .line .now) (a .numbers .now) (c .if4 .taken))
+    let ok = length-ok (a .limit) (length (a .line .now)) (omega (arith, c .before .before .before .if1 .left)) (c .before .before .if2 .left)
+    (omega (arith, c .before .before .if2 .left, c .before .if3 .left)) in
+    (few-answer (a .limit) (a .line .now) (a .numbers .now) ok (c .if4 .taken), few-over (a .limit) (a .line .now) (a .numbers .now) (c .if4 .taken))
 
 -- at the loop the length is right
 even : (c : tie.At-loop Inv-loop μ-loop)
     → let a = c .before .before .before .before .before .before .before .args in
     lengthOk (a .limit) (length (a .line .now)) ≡ true
-even c = ok _ _ (c .before .before .before .before .if1 .left) (c .before .before .before .if2 .left) (c .before .before .if3 .left)
+even c =
+    let a = c .before .before .before .before .before .before .before .args in
+    length-ok (a .limit) (length (a .line .now)) (omega (arith, c .before .before .before .before .if1 .left)) (c .before .before .before .if2 .left)
+    (omega (arith, c .before .before .before .if2 .left, c .before .before .if3 .left))
 
 loop-holds : tie.Need-loop-holds Inv-loop μ-loop
 loop-holds c = read-first _ _ _
@@ -87,7 +80,7 @@ enum-told : tie.Need-enum-told Inv-loop μ-loop
 enum-told c = c .match .keys2
 
 same-length : tie.Need-same-length Inv-loop μ-loop
-same-length c = c .before .before .before .before .loop .inv .long
+same-length c = search needs
 
 returns-5 : tie.Need-returns-5 Inv-loop μ-loop
 returns-5 c =
