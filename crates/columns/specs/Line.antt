@@ -66,7 +66,7 @@ abbrev pub countOf : Reading → LineRead
 countOf (read ns) = Numbers (length ns)
 countOf broken = Broken
 
--- what `read_line` answers into so many places: the count, or that they are fewer than the fields of a line whose length is right
+-- what `read_line` answers with so many places: how many numbers, refusal 2, or that the places are fewer than the fields of a line whose length is right
 unfoldable pub lineAnswer : ℕ → List ℕ → ℕ → LineRead
 lineAnswer limit s places = cond (lengthOk limit (length s) && ltb places (length s / fieldWidth)) NoRoom (countOf (readWithin limit s))
 
@@ -84,6 +84,6 @@ leading (suc k) s = upTo (readField (take fieldWidth s)) (leading k (drop fieldW
 abbrev pub over : List ℕ → List ℕ → List ℕ
 over ns a = ns ++ drop (length ns) a
 
--- the array after `read_line`: as it was where the line's length is bad or has too few places here, else with the numbers before the first bad field
+-- the array after `read_line`: as it was where the line's length is bad or the places are too few, else the numbers before the first bad field and the rest as it was
 unfoldable pub numbersOver : ℕ → List ℕ → List ℕ → List ℕ
 numbersOver limit s a = cond (lengthOk limit (length s) && leb (length s / fieldWidth) (length a)) (over (leading (length s / fieldWidth) s) a) a
