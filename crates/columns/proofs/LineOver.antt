@@ -13,7 +13,7 @@ use Rattle.columns.specs.declared.field.FieldRead.{FieldRead}
 use Rattle.columns.specs.declared.line.LineRead.{LineRead}
 use Rattle.columns.specs.declared.line.LineRead.the-variants.{Numbers, Broken, NoRoom}
 use Rattle.columns.specs.Field.{fieldWidth, readField}
-use Rattle.columns.specs.Line.{Reading, read, broken, fields, lengthOk, readWithin, lineOf, countOf, lineAnswer, upTo, leading, over, numbersOver}
+use Rattle.columns.specs.Line.{Reading, read, broken, fields, lengthOk, readWithin, lineOf, countOf, lineAnswer, upTo, leading, over, numbersOver, readingOf}
 use Rattle.columns.proofs.LineAgain.{length-ok, length-long, within-ok, Before, before-is, IsLine, line-only}
 use Rattle.columns.proofs.Writing.{length-line}
 
@@ -121,3 +121,14 @@ module _ (limit : ℕ) (s : List ℕ) where
   -- where none is
   pub read-not : (places : ℕ) → limit ≤ places → ((n : ℕ) → lineAnswer limit s places ≡ Numbers n → ⊥) → readWithin limit s ≡ broken
   read-not places h none = not-counted (readWithin limit s) (λ n e. none n (enough limit s places h ∙ e))
+
+reading-by : (limit : ℕ) (s a : List ℕ) (x : Reading) → limit ≤ length a → readWithin limit s ≡ x → readingOf (countOf x) (numbersOver limit s a) ≡ x
+unfolding readingOf
+reading-by limit s a (read ns) h e =
+    ap (λ (b : List ℕ). read (take (length ns) b)) (over-read limit s a ns h e) ∙ ap read (take-append-seam ns (drop (length ns) a))
+reading-by limit s a broken h e = refl
+
+-- with room, the answer and the array after it are what the line says
+pub reading-is : (limit : ℕ) (s a : List ℕ) → limit ≤ length a → readingOf (lineAnswer limit s (length a)) (numbersOver limit s a) ≡ readWithin limit s
+reading-is limit s a h =
+    ap (λ (r : LineRead). readingOf r (numbersOver limit s a)) (enough limit s (length a) h) ∙ reading-by limit s a (readWithin limit s) h refl
