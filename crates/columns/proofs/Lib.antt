@@ -3,4 +3,5 @@ pub mod LineTurns
 mod Words
 pub mod FieldAgain
 pub mod LineAgain
+pub mod LineOver
 pub mod Writing

@@ -3,7 +3,7 @@ use Prim.Native.Nat.{ℕ, zero, suc, _+_, _*_, _/_, _%_, _≤_, _<_}
 use native.Mathlib.Omega.{arith}
 use native.Mathlib.Decide.{ℕ-discrete, decLe}
 use mathlib.Core.Path.{_≡_, refl, sym, ap, _∙_}
-use mathlib.Core.Bool.{and-false}
+use mathlib.Core.Bool.{true, false, and-false}
 use mathlib.Core.List.{List, [], _∷_, _++_}
 use lib.ListN.{length, getD, take, drop, length-take, length-drop, take-append-drop}
 use lib.Seq.{take-at, take-take, drop-at, length-take-le}
@@ -17,36 +17,46 @@ use Rattle.columns.proofs.Writing.{length-line}
 
 -- ---- lengths
 
-module _ (limit : ℕ) (s : List ℕ) where
-  pub within-ok : 0 < length s → length s % fieldWidth ≡ 0 → length s ≤ fieldWidth * limit → readWithin limit s ≡ fields (length s / fieldWidth) s
-  unfolding readWithin lengthOk
-  within-ok some whole most = simp (lt-ltb 0 (length s) some, eq-eqb (length s % fieldWidth) 0 whole, le-leb (length s) (fieldWidth * limit) most)
+module _ (limit n : ℕ) where
+  pub length-ok : 0 < n → n % fieldWidth ≡ 0 → n ≤ fieldWidth * limit → lengthOk limit n ≡ true
+  unfolding lengthOk
+  length-ok some whole most = simp (lt-ltb 0 n some, eq-eqb (n % fieldWidth) 0 whole, le-leb n (fieldWidth * limit) most)
 
   -- "length 0"
-  pub within-none : length s ≡ 0 → readWithin limit s ≡ broken
-  unfolding readWithin lengthOk
-  within-none none = simp (le-ltb 0 (length s) (omega arith))
+  pub length-none : n ≡ 0 → lengthOk limit n ≡ false
+  unfolding lengthOk
+  length-none none = simp (le-ltb 0 n (omega arith))
 
   -- "no multiple of 11"
-  pub within-uneven : (length s % fieldWidth ≡ 0 → ⊥) → readWithin limit s ≡ broken
-  unfolding readWithin lengthOk
-  within-uneven uneven = simp (ne-eqb (length s % fieldWidth) 0 uneven, and-false)
+  pub length-uneven : (n % fieldWidth ≡ 0 → ⊥) → lengthOk limit n ≡ false
+  unfolding lengthOk
+  length-uneven uneven = simp (ne-eqb (n % fieldWidth) 0 uneven, and-false)
 
   -- "over 1,430"
-  pub within-long : fieldWidth * limit < length s → readWithin limit s ≡ broken
-  unfolding readWithin lengthOk
-  within-long long = simp (lt-leb (length s) (fieldWidth * limit) long, and-false)
+  pub length-long : fieldWidth * limit < n → lengthOk limit n ≡ false
+  unfolding lengthOk
+  length-long long = simp (lt-leb n (fieldWidth * limit) long, and-false)
+
+module _ (limit : ℕ) (s : List ℕ) where
+  pub within-ok : 0 < length s → length s % fieldWidth ≡ 0 → length s ≤ fieldWidth * limit → readWithin limit s ≡ fields (length s / fieldWidth) s
+  unfolding readWithin
+  within-ok some whole most = simp (length-ok limit (length s) some whole most)
+
+  pub within-bad : lengthOk limit (length s) ≡ false → readWithin limit s ≡ broken
+  unfolding readWithin
+  within-bad bad = simp bad
 
 -- a line over its limit is broken whatever stands behind the limit
 pub within-cut : (limit most : ℕ) (s : List ℕ) → limit ≤ most → fieldWidth * most < length s → readWithin limit s ≡ readWithin limit (take (fieldWidth * most + 1) s)
 within-cut limit most s low long =
     let cut : length (take (fieldWidth * most + 1) s) ≡ fieldWidth * most + 1 = length-take-le (fieldWidth * most + 1) s (omega arith) in
-    within-long limit s (omega arith) ∙ sym (within-long limit (take (fieldWidth * most + 1) s) (omega arith))
+    within-bad limit s (length-long limit (length s) (omega arith))
+    ∙ sym (within-bad limit (take (fieldWidth * most + 1) s) (length-long limit (length (take (fieldWidth * most + 1) s)) (omega arith)))
 
--- a line within two limits is read alike
-pub within-same : (a b : ℕ) (s : List ℕ) → length s ≤ fieldWidth * a → length s ≤ fieldWidth * b → readWithin a s ≡ readWithin b s
-unfolding readWithin lengthOk
-within-same a b s h k = simp (le-leb (length s) (fieldWidth * a) h, le-leb (length s) (fieldWidth * b) k)
+-- a length within two limits is right for both or for neither
+pub length-same : (a b n : ℕ) → n ≤ fieldWidth * a → n ≤ fieldWidth * b → lengthOk a n ≡ lengthOk b n
+unfolding lengthOk
+length-same a b n h k = simp (le-leb n (fieldWidth * a) h, le-leb n (fieldWidth * b) k)
 
 -- the first bytes of a line have its kind
 pub kind-cut : (n : ℕ) (s : List ℕ) → fieldWidth ≤ n → kindOf s ≡ kindOf (take n s)
@@ -86,14 +96,14 @@ pub broken-never : {P : Type 0} (ns : List ℕ) → broken ≡ read ns → P
 broken-never ns h = let z : _≡_ {A = ℕ} 0 1 = cc in absurd (omega arith)
 
 -- a first field and the rest, both read
-record Before (f : FieldRead) (r : Reading) (ns : List ℕ) : Type 0 where
-  first : ℕ
-  rest : List ℕ
-  is-field : f ≡ Number first
-  is-rest : r ≡ read rest
-  is : first ∷ rest ≡ ns
+pub record Before (f : FieldRead) (r : Reading) (ns : List ℕ) : Type 0 where
+  pub first : ℕ
+  pub rest : List ℕ
+  pub is-field : f ≡ Number first
+  pub is-rest : r ≡ read rest
+  pub is : first ∷ rest ≡ ns
 
-before-is : (f : FieldRead) (r : Reading) (ns : List ℕ) → before f r ≡ read ns → Before f r ns
+pub before-is : (f : FieldRead) (r : Reading) (ns : List ℕ) → before f r ≡ read ns → Before f r ns
 unfolding before onto
 before-is (Number n) (read ms) ns h = record { first = n; rest = ms; is-field = refl; is-rest = refl; is = cc }
 before-is (Number n) broken ns h = broken-never ns h
@@ -137,13 +147,13 @@ fields-only (suc k) s ns long h =
 pub line-only : (limit : ℕ) (s ns : List ℕ) → readWithin limit s ≡ read ns → IsLine limit s ns
 line-only limit s ns h =
     elim (ℕ-discrete (length s) 0) [
-      | yes none ↦ broken-never ns (sym (within-none limit s none) ∙ h)
+      | yes none ↦ broken-never ns (sym (within-bad limit s (length-none limit (length s) none)) ∙ h)
       | no q ↦
           elim (ℕ-discrete (length s % fieldWidth) 0) [
-            | no uneven ↦ broken-never ns (sym (within-uneven limit s uneven) ∙ h)
+            | no uneven ↦ broken-never ns (sym (within-bad limit s (length-uneven limit (length s) uneven)) ∙ h)
             | yes whole ↦
                 elim (decLe (length s) (fieldWidth * limit)) [
-                  | no long ↦ broken-never ns (sym (within-long limit s (omega arith)) ∙ h)
+                  | no long ↦ broken-never ns (sym (within-bad limit s (length-long limit (length s) (omega arith))) ∙ h)
                   | yes most ↦
                       let f : FieldsAre (length s / fieldWidth) s ns =
                       fields-only (length s / fieldWidth) s ns (omega arith) (sym (within-ok limit s (omega arith) whole most) ∙ h) in

@@ -8,7 +8,7 @@ use lib.ListN.{length, take, drop}
 use Rattle.columns.specs.declared.field.FieldRead.{FieldRead}
 use Rattle.columns.specs.declared.field.FieldRead.the-variants.{Number, Bad}
 use Rattle.columns.specs.declared.line.LineRead.{LineRead}
-use Rattle.columns.specs.declared.line.LineRead.the-variants.{Numbers, Broken}
+use Rattle.columns.specs.declared.line.LineRead.the-variants.{Numbers, Broken, NoRoom}
 use Rattle.columns.specs.Field.{fieldWidth, readField, fieldOf}
 
 -- "At most 130 fields"
@@ -61,12 +61,35 @@ abbrev pub InRange : List ℕ → Type 0
 InRange [] = Unit
 InRange (n ∷ ns) = (n < 2 ^ 32) × InRange ns
 
--- what `read_line` answers, with the array that it fills
+-- the answer to a reading: how many numbers, or refusal 2
+abbrev pub countOf : Reading → LineRead
+countOf (read ns) = Numbers (length ns)
+countOf broken = Broken
+
+-- what `read_line` answers with so many places: how many numbers, refusal 2, or that the places are fewer than the fields of a line whose length is right
+unfoldable pub lineAnswer : ℕ → List ℕ → ℕ → LineRead
+lineAnswer limit s places = cond (lengthOk limit (length s) && ltb places (length s / fieldWidth)) NoRoom (countOf (readWithin limit s))
+
+-- a field's number in front of others: none from "a bad field" on
+unfoldable pub upTo : FieldRead → List ℕ → List ℕ
+upTo (Number n) ns = n ∷ ns
+upTo Bad ns = []
+
+-- the numbers of the first k fields before the first bad one
+unfoldable pub leading : ℕ → List ℕ → List ℕ
+leading zero s = []
+leading (suc k) s = upTo (readField (take fieldWidth s)) (leading k (drop fieldWidth s))
+
+-- an array with these numbers at its start, and the rest as it was
+abbrev pub over : List ℕ → List ℕ → List ℕ
+over ns a = ns ++ drop (length ns) a
+
+-- the array after `read_line`: as it was where the line's length is bad or the places are too few, else the numbers before the first bad field and the rest as it was
+unfoldable pub numbersOver : ℕ → List ℕ → List ℕ → List ℕ
+numbersOver limit s a = cond (lengthOk limit (length s) && leb (length s / fieldWidth) (length a)) (over (leading (length s / fieldWidth) s) a) a
+
+-- what a line says, by the answer of `read_line` and the array after it, where there was room
 unfoldable pub readingOf : LineRead → List ℕ → Reading
 readingOf (Numbers k) a = read (take k a)
 readingOf Broken a = broken
-
--- the count that `read_line` answers is one of the array's places
-abbrev pub Counted : LineRead → List ℕ → Type 0
-Counted (Numbers k) a = (k ≤ length a) × (k ≡ length (take k a))
-Counted Broken a = Unit
+readingOf NoRoom a = broken

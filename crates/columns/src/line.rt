@@ -1,9 +1,8 @@
 // A line: fields, one after the other.
 
 ghost use mathlib.Core.Path.{_≡_};
-ghost use Prim.Native.Nat.{min};
 ghost use lib.ListN.{length};
-ghost use Rattle.columns.specs.Line.{readWithin, readingOf, Counted};
+ghost use Rattle.columns.specs.Line.{lineAnswer, numbersOver};
 use crate::field::FIELD;
 use crate::field::FieldRead;
 use crate::field::read_field;
@@ -11,16 +10,17 @@ use crate::field::read_field;
 // The fields of a line of document 01's kinds, at most.
 pub const LINE_FIELDS: usize = 130;
 
-// What a line says: how many numbers, which the caller's array holds.
+// What a line says: how many numbers, which the caller's array holds, or that it is no sheet line, or that it has more fields than the array has places.
 pub enum LineRead {
     Numbers(usize),
     Broken,
+    NoRoom,
 }
 
-// The numbers of a line that may have so many fields, or as many as the array has places where these are fewer.
+// The numbers of a line that may have so many fields, from the array's start on, as far as the first bad field.
 pub fn read_line(line: &[u8], limit: usize, numbers: &mut [u32]) -> LineRead
-    ensures { λ r. ⌜ readingOf r (now (numbers .exit)) ≡ readWithin (min limit (length (now (numbers .entry)))) (now (line .entry)) ⌝ }
-    ensures { λ r. ⌜ Counted r (now (numbers .exit)) ⌝ }
+    ensures { λ r. ⌜ r ≡ lineAnswer limit (now (line .entry)) (length (now (numbers .entry))) ⌝ }
+    ensures { λ _. ⌜ now (numbers .exit) ≡ numbersOver limit (now (line .entry)) (now (numbers .entry)) ⌝ }
 {
     let n = line.len();
     if n == 0 {
@@ -34,7 +34,7 @@ pub fn read_line(line: &[u8], limit: usize, numbers: &mut [u32]) -> LineRead
         return LineRead::Broken;
     }
     if numbers.len() < count {
-        return LineRead::Broken;
+        return LineRead::NoRoom;
     }
     let mut at = 0;
     let mut k = 0;

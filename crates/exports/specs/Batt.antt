@@ -74,7 +74,7 @@ stateFrom ns = record {
 unfoldable pub batteryFrom : List ℕ → Battery
 batteryFrom ns = record { est = estimatorFrom ns; state = stateFrom ns; «missing_s» = floatAt ns 26; present = flagAt ns 27; seen = flagAt ns 28 }
 
--- a reading by its kind on the sheet: 0 nothing, 1 volts, 2 volts and amps
+-- a reading by its kind: 0 nothing, 1 volts, any other volts and amps
 unfoldable pub readingFrom : ℕ → ℕ → ℕ → Reading
 readingFrom kind volts amps =
     cond (eqb kind 0) Nothing
@@ -140,10 +140,10 @@ silenceNumbers b = bits (b .«missing_s») ∷ flag (b .present) ∷ flag (b .se
 unfoldable pub batteryNumbers : Battery → List ℕ
 batteryNumbers b = configNumbers (b .est .cfg) ++ (estimatorNumbers (b .est) ++ (stateNumbers (b .state) ++ silenceNumbers b))
 
--- 1 where there is no room for a battery
+-- 1 where there is no room for a battery, else 0
 unfoldable pub shortNumber : List ℕ → ℕ
 shortNumber ns = cond (ltb (length ns) size) 1 0
 
--- the numbers after a battery is stored, where there is room for it
+-- the numbers after a battery is stored at their start, where there is room for it; those behind it are as they were
 unfoldable pub storedOf : List ℕ → Battery → List ℕ
 storedOf ns b = cond (ltb (length ns) size) ns (sets ns 0 (batteryNumbers b))

@@ -1,8 +1,8 @@
 -- The check table by its two masks.
 use Prim.Native.Nat.{ℕ, _+_, _*_, _^_}
-use mathlib.Core.Bool.{Bool, cond}
+use mathlib.Core.Bool.{cond}
 use mathlib.Core.List.{List, [], _∷_}
-use lib.Dec.{ltb}
+use lib.Dec.{eqb, ltb}
 use lib.ListN.{getD}
 use Rattle.relay_preflight.specs.declared.CheckId.{CheckId}
 use Rattle.relay_preflight.specs.declared.CheckId.the-variants.{SensorsHealthy, EstimatorConverged, CalibrationPresent, GeofenceLoaded, BatteryOk, FailsafeConfigured, EstimatorInnovation}
@@ -46,8 +46,8 @@ checkAt n = getD checks n SensorsHealthy
 abbrev pub masks : CheckTable → ℕ
 masks t = t .required * 2 ^ 32 + t .passed
 
--- `CheckTable::set` by masks and the check's number; from 21 on there is nothing to set
-unfoldable pub setMasks : ℕ → ℕ → ℕ → Bool → ℕ
+-- `CheckTable::set` by masks, the check's number and a flag, of which 1 alone is true; from check 21 on there is nothing to set
+unfoldable pub setMasks : ℕ → ℕ → ℕ → ℕ → ℕ
 setMasks required passed id pass =
     let t = newOf required passed in
-    cond (ltb id checkCount) (masks (setOf t (checkAt id) pass)) (masks t)
+    cond (ltb id checkCount) (masks (setOf t (checkAt id) (eqb pass 1))) (masks t)

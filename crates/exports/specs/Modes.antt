@@ -26,11 +26,11 @@ modeCount = 8
 unfoldable pub modeAt : ℕ → Mode
 modeAt n = getD modes n Disarmed
 
--- the gates by four bits, in the order of the Rust's fields
+-- the gates by the four lowest bits, in the order of the Rust's fields
 unfoldable pub gatesFrom : ℕ → Gates
 gatesFrom n = record { level = bit n 1; «throttle_low» = bit n 2; «have_position» = bit n 4; «prearm_ok» = bit n 8 }
 
--- the number of the mode after an event, where there is one
+-- the number of the mode after an event, or `unknown` where there is none
 abbrev pub onFound : Mode → FoundEvent → Gates → ℕ
 onFound m (Known e) g = modeNumber (onOf m e g)
 onFound m Unknown g = unknown

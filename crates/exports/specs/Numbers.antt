@@ -19,10 +19,10 @@ flag false = 0
 abbrev pub bit : ℕ → ℕ → Bool
 bit n power = eqb (n / power % 2) 1
 
--- the float whose bits stand at a place
+-- the float whose bits stand at a place, 0.0 beyond the end
 abbrev pub floatAt : List ℕ → ℕ → Float
 floatAt ns i = ofBits binary32 (getD ns i 0)
 
--- the flag at a place: 1 is true
+-- the flag at a place: 1 is true, any other number false
 abbrev pub flagAt : List ℕ → ℕ → Bool
 flagAt ns i = eqb (getD ns i 0) 1

@@ -23,7 +23,7 @@ actionCount = 5
 unfoldable pub actionAt : ℕ → FailsafeAction
 actionAt n = getD actions n None
 
--- the triggers by seven bits, in the order of the Rust's fields
+-- the triggers by the seven lowest bits, in the order of the Rust's fields
 unfoldable pub triggersFrom : ℕ → Triggers
 triggersFrom n = record {
   «rc_loss» = bit n 1;

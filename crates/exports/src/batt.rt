@@ -1,4 +1,4 @@
-// The battery as 29 numbers: the pack 0..7, the estimator 8..16, what is shown 17..25, the silence and two flags 26..28.
+// The battery as 29 numbers: the pack 0..7, the estimator 8..16, what is shown 17..25, the silence and two flags 26..28. A slice may have more; those are neither read nor changed.
 
 use crate::numbers::flag_number;
 use crate::numbers::float;
@@ -39,7 +39,7 @@ fn config_from(ns: &[u32]) -> BattConfig
     }
 }
 
-// The latch at a place.
+// The latch whose two numbers begin at a place.
 fn latch_from(ns: &[u32], i: usize) -> TripLatch
     requires { ⌜ i < size ⌝ }
     ensures { λ r. ⌜ r ≡ latchFrom (now (ns .entry)) i ⌝ }
@@ -112,7 +112,7 @@ fn reading_from(kind: u32, volts: u32, amps: u32) -> Reading
     }
 }
 
-// The battery read, after `Battery::update`.
+// The battery of the numbers, after `Battery::update`.
 fn update_from(ns: &[u32], dt: u32, kind: u32, volts: u32, amps: u32) -> Battery
     ensures { λ r. ⌜ r ≡ updateFrom (now (ns .entry)) dt kind volts amps ⌝ }
 {
@@ -182,7 +182,7 @@ fn silence_numbers(b: Battery) -> [u32; 3]
     ]
 }
 
-// Stores a battery's numbers.
+// Stores a battery's numbers, from the start on.
 fn put_battery(out: &mut [u32], b: Battery)
     requires { ⌜ size ≤ length (now out) ⌝ }
     ensures { λ _. ⌜ now (out .exit) ≡ sets (now (out .entry)) 0 (batteryNumbers b) ⌝ }
@@ -200,7 +200,7 @@ fn put_battery(out: &mut [u32], b: Battery)
     put(out, 26, &part);
 }
 
-// `Battery::new` for the pack of the first eight numbers; 1 where the slice is too short, and then nothing changes.
+// `Battery::new` for the pack of the first eight numbers. Answers 0, or 1 where the slice has under 29 numbers, and then nothing changes.
 #[no_mangle]
 pub extern "C" fn bartsemmo_battery_new(numbers: &mut [u32]) -> u32
     ensures answer { λ r. ⌜ r ≡ shortNumber (now (numbers .entry)) ⌝ }
@@ -214,7 +214,7 @@ pub extern "C" fn bartsemmo_battery_new(numbers: &mut [u32]) -> u32
     0
 }
 
-// `Battery::update`; 1 where the slice is too short, and then nothing changes.
+// `Battery::update`, with a reading of kind 0 nothing, 1 volts, any other volts and amps. Answers 0, or 1 where the slice has under 29 numbers, and then nothing changes.
 #[no_mangle]
 pub extern "C" fn bartsemmo_battery_update(
     numbers: &mut [u32],

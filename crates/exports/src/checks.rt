@@ -1,4 +1,4 @@
-// The check table, by its two masks.
+// The check table, by its two masks, which may have any bits.
 
 use relay_preflight::CHECK_COUNT;
 use relay_preflight::CheckId;
@@ -36,7 +36,7 @@ const CHECKS: [CheckId; CHECK_COUNT as usize] = [
     CheckId::InsideGeofence,
 ];
 
-// The check with this number.
+// The check with this number, below 21.
 fn check_at(n: u32) -> CheckId
     requires { ⌜ n < checkCount ⌝ }
     ensures { λ r. ⌜ r ≡ checkAt n ⌝ }
@@ -52,14 +52,15 @@ fn masks_of(t: CheckTable) -> u64
     t.required as u64 * 0x1_0000_0000 + t.passed as u64
 }
 
-// The masks after `CheckTable::set`; there is nothing to set where the number is no check's.
+// The masks after `CheckTable::set`, where `pass` is true if it is 1; from check 21 on they are as they were.
+// A number and no `bool`: C could hand over a byte that is none.
 #[no_mangle]
-pub extern "C" fn bartsemmo_set(required: u32, passed: u32, id: u32, pass: bool) -> u64
+pub extern "C" fn bartsemmo_set(required: u32, passed: u32, id: u32, pass: u32) -> u64
     ensures { λ r. ⌜ r ≡ setMasks required passed id pass ⌝ }
 {
     let t = CheckTable::new(required, passed);
     if id < CHECK_COUNT {
-        return masks_of(t.set(check_at(id), pass));
+        return masks_of(t.set(check_at(id), pass == 1));
     }
     masks_of(t)
 }
@@ -73,7 +74,7 @@ pub extern "C" fn bartsemmo_outstanding(required: u32, passed: u32) -> u32
     t.outstanding()
 }
 
-// The number of `arm_check_table`'s blocker.
+// The number of `arm_check_table`'s blocker, 21 if none.
 #[no_mangle]
 pub extern "C" fn bartsemmo_blocker(required: u32, passed: u32) -> u32
     ensures { λ r. ⌜ r ≡ blockerNumber (firstBlockerOf (newOf required passed)) ⌝ }

@@ -1,4 +1,4 @@
-// The floats of relay_math and relay_batt, on patterns.
+// The floats of relay_math and relay_batt, on patterns: any NaN is read, and 7FC00000 is answered for one.
 
 use relay_batt::ocv_soc_cell;
 use relay_batt::sanitize;

@@ -1,4 +1,4 @@
-// `extern "C"` functions for the harness: numbers and slices of numbers, a float as its bits, a flag as 0 or 1.
+// `extern "C"` functions for the harness: numbers and slices of numbers, a float as its bits. A flag is 1 where it is true; 0 is answered where it is false, and any number but 1 is read so.
 
 pub mod batt;
 pub mod checks;

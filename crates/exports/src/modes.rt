@@ -1,4 +1,4 @@
-// The mode machine, by the numbers of modes and events. The gates are bits: 1 level, 2 low throttle, 4 position, 8 checks.
+// The mode machine, by the numbers of modes and events; UNKNOWN is answered to any other number. The gates are bits: 1 level, 2 low throttle, 4 position, 8 checks; higher bits say nothing.
 
 use crate::numbers::UNKNOWN;
 use crate::numbers::flag_number;
@@ -27,7 +27,7 @@ const MODES: [Mode; COUNT as usize] = [
     Mode::Terminated,
 ];
 
-// The mode with this number.
+// The mode with this number, below 8.
 fn mode_at(n: u32) -> Mode
     requires { ⌜ n < modeCount ⌝ }
     ensures { λ r. ⌜ r ≡ modeAt n ⌝ }
@@ -36,7 +36,7 @@ fn mode_at(n: u32) -> Mode
     MODES[i]
 }
 
-// The gates of four bits.
+// The gates of the four lowest bits.
 fn gates_from(n: u32) -> Gates
     ensures { λ r. ⌜ r ≡ gatesFrom n ⌝ }
 {
@@ -48,7 +48,7 @@ fn gates_from(n: u32) -> Gates
     }
 }
 
-// The number of the mode after an event, where there is one.
+// The number of the mode after an event, or UNKNOWN where there is none.
 fn on_found(mode: Mode, found: FoundEvent, g: Gates) -> u32
     ensures { λ r. ⌜ r ≡ onFound mode found g ⌝ }
 {
@@ -87,7 +87,7 @@ pub extern "C" fn bartsemmo_rank(mode: u32) -> u32
     UNKNOWN
 }
 
-// `Mode::is_airborne`.
+// `Mode::is_airborne`, as 1 or 0.
 #[no_mangle]
 pub extern "C" fn bartsemmo_is_airborne(mode: u32) -> u32
     ensures { λ r. ⌜ r ≡ airborneNumber mode ⌝ }

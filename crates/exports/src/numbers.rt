@@ -10,7 +10,7 @@ ghost use Rattle.exports.specs.Numbers.{flag, bit, floatAt, flagAt};
 // The answer where a number stands for nothing.
 pub const UNKNOWN: u32 = 0xffff_ffff;
 
-// A flag as a number.
+// A flag as a number, 1 or 0.
 pub fn flag_number(b: bool) -> u32
     ensures { λ r. ⌜ r ≡ flag b ⌝ }
 {
@@ -38,14 +38,14 @@ pub fn number(ns: &[u32], i: usize) -> u32
     0
 }
 
-// The float whose bits stand at a place.
+// The float whose bits stand at a place, 0.0 beyond the end.
 pub fn float(ns: &[u32], i: usize) -> f32
     ensures { λ r. ⌜ r ≡ floatAt (now (ns .entry)) i ⌝ }
 {
     from_bits(number(ns, i))
 }
 
-// The flag at a place: 1 is true.
+// The flag at a place: 1 is true, any other number false.
 pub fn is_one(ns: &[u32], i: usize) -> bool
     ensures { λ r. ⌜ r ≡ flagAt (now (ns .entry)) i ⌝ }
 {

@@ -1,4 +1,4 @@
-// The failsafe policy, by severities. The triggers are bits, in the order of the fields of `Triggers`.
+// The failsafe policy, by severities. The triggers are bits, in the order of the fields of `Triggers`; bits from 128 on say nothing.
 
 use crate::numbers::UNKNOWN;
 use crate::numbers::is_set;
@@ -21,7 +21,7 @@ const ACTIONS: [FailsafeAction; COUNT as usize] = [
     FailsafeAction::Terminate,
 ];
 
-// The action of this severity.
+// The action of this severity, below 5.
 fn action_at(n: u32) -> FailsafeAction
     requires { ⌜ n < actionCount ⌝ }
     ensures { λ r. ⌜ r ≡ actionAt n ⌝ }
@@ -30,7 +30,7 @@ fn action_at(n: u32) -> FailsafeAction
     ACTIONS[i]
 }
 
-// The triggers of seven bits.
+// The triggers of the seven lowest bits.
 fn triggers_from(n: u32) -> Triggers
     ensures { λ r. ⌜ r ≡ triggersFrom n ⌝ }
 {
@@ -55,7 +55,7 @@ pub extern "C" fn bartsemmo_policy(triggers: u32) -> u32
     action.severity() as u32
 }
 
-// The severity of what `FailsafeArbiter::evaluate` latches.
+// The severity of what `FailsafeArbiter::evaluate` latches, or UNKNOWN where `latched` is no severity.
 #[no_mangle]
 pub extern "C" fn bartsemmo_evaluate(latched: u32, triggers: u32) -> u32
     ensures { λ r. ⌜ r ≡ evaluateNumber latched triggers ⌝ }

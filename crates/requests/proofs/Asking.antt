@@ -1,18 +1,18 @@
 -- From a line's bytes to what it asks. Assumes nothing.
-use Prim.Native.Nat.{ℕ, _+_, _*_, _≤_, _<_, min}
-use native.Mathlib.Nat.{min-eq-left}
+use Prim.Native.Nat.{ℕ, _+_, _*_, _≤_, _<_}
 use native.Mathlib.Omega.{arith}
 use mathlib.Core.Path.{_≡_, refl, sym, ap, _∙_, subst}
 use mathlib.Core.List.{List}
 use lib.ListN.{length, take, length-take}
 use lib.Seq.{take-take, getD-take}
 use Rattle.columns.specs.declared.line.LineRead.{LineRead}
-use Rattle.columns.specs.declared.line.LineRead.the-variants.{Numbers, Broken}
+use Rattle.columns.specs.declared.line.LineRead.the-variants.{Numbers}
 use Rattle.columns.specs.declared.field.FieldRead.{FieldRead}
 use Rattle.columns.specs.declared.field.FieldRead.the-variants.{Number, Bad}
 use Rattle.columns.specs.Field.{fieldWidth, inRange, kindOf}
-use Rattle.columns.specs.Line.{read, lineFields, readWithin, readingOf, Counted}
-use Rattle.columns.proofs.LineAgain.{within-cut, within-same, kind-cut, line-only, first-number}
+use Rattle.columns.specs.Line.{read, lineFields, lengthOk, readWithin, lineAnswer, numbersOver}
+use Rattle.columns.proofs.LineAgain.{within-cut, length-same, kind-cut, line-only, first-number}
+use Rattle.columns.proofs.LineOver.{within-limits, over-limits, ReadInto, read-into, read-not}
 use Rattle.falcon_core.specs.Calls.{plans, points, zones}
 use Rattle.falcon_guidance.specs.State.{pointNumbers, zoneNumbers}
 use Rattle.requests.specs.declared.kinds.Kind.{Kind}
@@ -20,7 +20,7 @@ use Rattle.requests.specs.declared.kinds.Kind.the-variants.{Flight, Othe
 use Rattle.requests.specs.declared.kinds.OtherCall.the-variants.{Refused, Opens, Points, Zones}
 use Rattle.requests.specs.Kinds.{Asked, refuses, asks, numberAt, listHead, listFields, requestOf, listLine, listFloats, Says}
 use Rattle.falcon_core.specs.Refusals.{notALine}
-use Rattle.requests.specs.Parse.{askedBy, limitFields, mostFields, readingLine}
+use Rattle.requests.specs.Parse.{askedBy, limitFields, mostFields, readingLine, askedLine, numbersAfter}
 
 -- ---- the limit of a line
 
@@ -40,22 +40,20 @@ limit-least k = omega (arith, limit-ordinary k)
 pub limit-most : (k : FieldRead) → limitFields k ≤ mostFields
 limit-most k = omega (arith, limit-ordinary k)
 
--- a line that every kind may have is read without its kind
-pub read-short : (line : List ℕ) → length line ≤ fieldWidth * lineFields → readWithin lineFields line ≡ readingLine line
-unfolding readingLine
-read-short line h = within-same lineFields (limitFields (kindOf line)) line h (omega (arith, limit-least (kindOf line)))
+-- the limit r says of a line's length what the limit of its kind says
+abbrev SameLength : List ℕ → ℕ → Type 0
+SameLength line r = lengthOk r (length line) ≡ lengthOk (limitFields (kindOf line)) (length line)
 
--- any other by its kind
-pub read-kinded : (line : List ℕ) (limit v : ℕ) → limit ≡ limitFields (inRange v) → inRange v ≡ kindOf line → readWithin limit line ≡ readingLine line
-unfolding readingLine
-read-kinded line limit v e k = ap (λ (n : ℕ). readWithin n line) (e ∙ ap limitFields k)
+-- a line that every kind may have needs no kind
+pub length-short : (line : List ℕ) → length line ≤ fieldWidth * lineFields → SameLength line lineFields
+length-short line h = length-same lineFields (limitFields (kindOf line)) (length line) h (omega (arith, limit-least (kindOf line)))
+
+-- any other has the limit of its kind
+pub length-kinded : (line : List ℕ) (limit v : ℕ) → limit ≡ limitFields (inRange v) → inRange v ≡ kindOf line → SameLength line limit
+length-kinded line limit v e k = ap (λ (n : ℕ). lengthOk n (length line)) (e ∙ ap limitFields k)
 
 pub kinded-most : (limit v : ℕ) → limit ≡ limitFields (inRange v) → limit ≤ mostFields
 kinded-most limit v e = omega (arith, limit-most (inRange v))
-
--- an array with a place for each number of any line does not limit a line
-pub read-room : (line : List ℕ) (limit room : ℕ) → (readWithin limit line ≡ readingLine line) × (limit ≤ mostFields) → mostFields ≤ room → readWithin (min limit room) line ≡ readingLine line
-read-room line limit room (e, h) k = ap (λ (n : ℕ). readWithin n line) (min-eq-left (omega arith)) ∙ e
 
 -- a line over every kind's limit says the same without the bytes behind it
 pub reading-cut : (line : List ℕ) → fieldWidth * mostFields < length line → readingLine line ≡ readingLine (take (fieldWidth * mostFields + 1) line)
@@ -70,24 +68,33 @@ pub reading-kind : (line ns : List ℕ) → readingLine line ≡ read ns → kin
 unfolding readingLine
 reading-kind line ns h = first-number (limitFields (kindOf line)) line ns h
 
--- the numbers that a line was read to
-module _ (limit : ℕ) (line : List ℕ) (r : LineRead) (a : List ℕ) (n : ℕ) (e : readingOf r a ≡ readWithin limit line) (k : r ≡ Numbers n) where
-  pub asked-read : requestOf (take n a) ≡ askedBy (readWithin limit line)
-  unfolding readingOf
-  asked-read = ap askedBy (sym (ap (λ (x : LineRead). readingOf x a) k) ∙ e)
+-- the line reader's array and answer, with an array that has a place for each number of any line
+module _ (limit : ℕ) (line a : List ℕ) (same : SameLength line limit × (limit ≤ mostFields)) (room : mostFields ≤ length a) where
+  pub array-after : (b : List ℕ) → b ≡ numbersOver limit line a → b ≡ numbersAfter line a
+  unfolding numbersAfter
+  array-after b e = e ∙ over-limits limit (limitFields (kindOf line)) line a (same .0)
 
-  pub read-some : 0 < length (take n a)
-  unfolding readingOf
-  read-some = line-only limit line (take n a) (sym e ∙ ap (λ (x : LineRead). readingOf x a) k) .some
+  reading-is : readWithin limit line ≡ readingLine line
+  unfolding readingLine
+  reading-is = within-limits limit (limitFields (kindOf line)) line (same .0)
 
--- a line that was not read
-pub asked-broken : (limit : ℕ) (line : List ℕ) (r : LineRead) (a : List ℕ) → readingOf r a ≡ readWithin limit line → r ≡ Broken → refuses notALine ≡ askedBy (readWithin limit line)
-unfolding readingOf
-asked-broken limit line r a e k = ap askedBy (sym (ap (λ (x : LineRead). readingOf x a) k) ∙ e)
+  -- a line that was not read
+  pub asked-broken : (r : LineRead) → r ≡ lineAnswer limit line (length a) → ((n : ℕ) → r ≡ Numbers n → ⊥) → refuses notALine ≡ askedLine line
+  unfolding askedLine
+  asked-broken r e none =
+      ap askedBy (sym (read-not limit line (length a) (omega (arith, same .1)) (λ n k. none n (e ∙ k))) ∙ reading-is)
 
--- the count is one of the array's places
-pub counted : (r : LineRead) (a : List ℕ) (n : ℕ) → Counted r a → r ≡ Numbers n → (n ≤ length a) × (n ≡ length (take n a))
-counted r a n h k = subst (λ (x : LineRead). Counted x a) k h
+  -- the numbers of a line that was read
+  module _ (r : LineRead) (b : List ℕ) (n : ℕ) (e : r ≡ lineAnswer limit line (length a)) (o : b ≡ numbersOver limit line a) (k : r ≡ Numbers n) where
+    pub taken : ReadInto limit line b n
+    taken = subst (λ (x : List ℕ). ReadInto limit line x n) (sym o) (read-into limit line a n (omega (arith, same .1)) (sym e ∙ k))
+
+    pub taken-some : 0 < length (take n b)
+    taken-some = line-only limit line (take n b) (taken .is) .some
+
+    pub asked-read : requestOf (take n b) ≡ askedLine line
+    unfolding askedLine
+    asked-read = ap askedBy (sym (taken .is) ∙ reading-is)
 
 -- a list among the first numbers of an array is among all of them
 module _ (width n : ℕ) (a : List ℕ) (h : listFields width (take n a) ≤ length (take n a)) where

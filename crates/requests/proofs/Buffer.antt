@@ -1,10 +1,10 @@
 -- The state, the refusal and the buffer by the buffer's length. Assumes nothing.
-use Prim.Native.Nat.{ℕ, _*_, _≤_, _<_}
+use Prim.Native.Nat.{ℕ, _+_, _*_, _≤_, _<_}
 use native.Mathlib.Omega.{arith}
 use mathlib.Core.Path.{_≡_, refl, sym, ap, _∙_}
 use mathlib.Core.List.{List, [], _++_, append-nil}
 use borrow.Author.Tests.{lt-ltb, le-ltb}
-use lib.ListN.{length, drop}
+use lib.ListN.{length, drop, length-append}
 use Rattle.falcon_core.specs.declared.supervisor.Supervisor.{Supervisor}
 use Rattle.falcon_core.specs.declared.calls.Answered.{Answered}
 use Rattle.falcon_core.specs.declared.calls.Output.{Output}
@@ -54,6 +54,26 @@ needs-kinded line n v e k = ap (λ (m : ℕ). fieldWidth * m) (e ∙ ap needFiel
 
 -- ---- what an answer takes
 
+-- an answer of either case has no more fields than a line of any kind needs
+answer-fits : (s : Supervisor) (o : Output) (k : FieldRead) → answerFields + length (extraOf s o) ≤ needFields k
+unfolding extraOf
+answer-fits s Nothing k = omega (arith, need-least k)
+answer-fits s (Ticks t) k = omega (arith, need-least k)
+
+-- a reply is no longer than what its line needs
+pub reply-fits : (s : Supervisor) (line : List ℕ) → length (replyOf (answeredBy s (askedLine line))) ≤ needOf line
+unfolding replyOf replyNumbers needOf
+reply-fits s line =
+    let a : Answered = answeredBy s (askedLine line) in
+    let extra : List ℕ = extraOf (a .supervisor) (a .answer .output) in
+    omega (
+      arith,
+      length-line (numbersOf (a .answer) ++ extra),
+      length-append (numbersOf (a .answer)) extra,
+      numbers-count (a .answer),
+      answer-fits (a .supervisor) (a .answer .output) (kindOf line),
+    )
+
 extra-none : (s : Supervisor) (o : Output) → extraOf s o ≡ []
 unfolding extraOf
 extra-none s Nothing = refl
@@ -63,17 +83,6 @@ pub reply-ten : (a : Answered) → numbersOf (a .answer) ≡ replyNumbers a
 unfolding replyNumbers
 reply-ten a =
     sym (ap (λ (l : List ℕ). numbersOf (a .answer) ++ l) (extra-none (a .supervisor) (a .answer .output)) ∙ append-nil (numbersOf (a .answer)))
-
-pub reply-width : (a : Answered) → length (replyOf a) ≡ answerWidth
-unfolding replyOf
-reply-width a =
-    length-line (replyNumbers a)
-    ∙ ap (λ (l : List ℕ). fieldWidth * length l) (sym (reply-ten a))
-    ∙ ap (λ (n : ℕ). fieldWidth * n) (numbers-count (a .answer))
-
--- a reply is no longer than what its line needs
-pub reply-fits : (s : Supervisor) (line : List ℕ) → length (replyOf (answeredBy s (askedLine line))) ≤ needOf line
-reply-fits s line = omega (arith, reply-width (answeredBy s (askedLine line)), needs-least line)
 
 -- numbers that fit are written, and what stands behind them stays
 pub written-fits : (ns out : List ℕ) → fieldWidth * length ns ≤ length out → writtenOver ns out ≡ lineOf ns ++ drop (length (lineOf ns)) out

@@ -4,7 +4,7 @@ use mathlib.Core.List.{List}
 use Rattle.columns.specs.declared.field.FieldRead.{FieldRead}
 use Rattle.columns.specs.declared.field.FieldRead.the-variants.{Number, Bad}
 use Rattle.columns.specs.Field.{kindOf}
-use Rattle.columns.specs.Line.{Reading, read, broken, lineFields, readWithin}
+use Rattle.columns.specs.Line.{Reading, read, broken, lineFields, readWithin, numbersOver}
 use Rattle.falcon_core.specs.Refusals.{notALine}
 use Rattle.requests.specs.Kinds.{Asked, refuses, requestOf}
 
@@ -29,3 +29,7 @@ readingLine line = readWithin (limitFields (kindOf line)) line
 -- what a line asks: 2, 3, 4 and 5 in this order
 unfoldable pub askedLine : List ℕ → Asked
 askedLine line = askedBy (readingLine line)
+
+-- the array that takes a line's numbers, after it: those before the first bad field, and behind them what stood there
+unfoldable pub numbersAfter : List ℕ → List ℕ → List ℕ
+numbersAfter line a = numbersOver (limitFields (kindOf line)) line a

@@ -2,10 +2,10 @@
 ghost use Prim.Native.Nat.{_≤_};
 ghost use mathlib.Core.Path.{_≡_};
 ghost use lib.ListN.{length};
-ghost use Rattle.columns.specs.Field.{inRange};
-ghost use Rattle.columns.specs.Line.{readWithin};
+ghost use Rattle.columns.specs.Field.{inRange, kindOf};
+ghost use Rattle.columns.specs.Line.{lengthOk};
 ghost use Rattle.requests.specs.Kinds.{Says};
-ghost use Rattle.requests.specs.Parse.{limitFields, mostFields, readingLine, askedLine};
+ghost use Rattle.requests.specs.Parse.{limitFields, mostFields, askedLine, numbersAfter};
 use crate::kinds::Kind;
 use crate::kinds::OtherCall;
 use crate::kinds::kind_of;
@@ -31,7 +31,7 @@ fn limit_fields(kind: u64) -> usize
 
 // How many fields a line may have. The kind is read only where a line has more than every kind may have.
 fn line_limit(line: &[u8]) -> usize
-    ensures { λ r. ⌜ (readWithin r (now (line .entry)) ≡ readingLine (now (line .entry))) × (r ≤ mostFields) ⌝ }
+    ensures { λ r. ⌜ (lengthOk r (length (now (line .entry))) ≡ lengthOk (limitFields (kindOf (now (line .entry)))) (length (now (line .entry)))) × (r ≤ mostFields) ⌝ }
 {
     if line.len() <= ORDINARY {
         return LINE_FIELDS;
@@ -43,6 +43,7 @@ fn line_limit(line: &[u8]) -> usize
 fn asked_into(line: &[u8], numbers: &mut [u32]) -> Kind
     requires { ⌜ mostFields ≤ length (now numbers) ⌝ }
     ensures { λ r. ⌜ Says r (now (numbers .exit)) (askedLine (now (line .entry))) ⌝ }
+    ensures { λ _. ⌜ now (numbers .exit) ≡ numbersAfter (now (line .entry)) (now (numbers .entry)) ⌝ }
 {
     let limit = line_limit(line);
     let LineRead::Numbers(count) = read_line(line, limit, numbers) else {
@@ -55,6 +56,7 @@ fn asked_into(line: &[u8], numbers: &mut [u32]) -> Kind
 pub fn asked(line: &[u8], numbers: &mut [u32; MOST_FIELDS]) -> Kind
     ensures { λ r. ⌜ Says r (now (numbers .exit)) (askedLine (now (line .entry))) ⌝ }
     ensures { λ _. ⌜ length (now (numbers .exit)) ≡ mostFields ⌝ }
+    ensures { λ _. ⌜ now (numbers .exit) ≡ numbersAfter (now (line .entry)) (now (numbers .entry)) ⌝ }
 {
     asked_into(line, numbers)
 }

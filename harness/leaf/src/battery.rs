@@ -232,9 +232,24 @@ fn lengths() {
     }
 }
 
+/// A kind of reading above 2 is read as 2.
+fn kinds() {
+    let mut opened = [0x4000_0000u32; BATTERY_SIZE];
+    proved::battery_new(&mut opened);
+    let after = |kind: u32| {
+        let mut numbers = opened;
+        proved::battery_update(&mut numbers, 0x3f80_0000, kind, 0x4170_0000, 0x4120_0000);
+        numbers
+    };
+    for kind in [3, 255, 256, u32::MAX] {
+        same("battery_update, a kind above 2", kind, after(kind), after(2));
+    }
+}
+
 /// Lists of steps from random packs.
 pub fn steps(count: u64) {
     lengths();
+    kinds();
     let table = CheckTable::from_masks(0, 0);
     let mut s = FlightSupervisor::with_core(FlightCore::default(), [0.0; 3], 0.0, 0.0, 0.0, table);
     let mut r = Random::new(4);

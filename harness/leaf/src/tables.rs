@@ -128,7 +128,7 @@ fn table(supervisor: &mut FlightSupervisor, required: u32, passed: u32, ids: &[C
         for pass in [false, true] {
             let mut t = supervisor.check_table;
             t.set(id, pass);
-            same("set", (required, passed, id, pass), proved::set(required, passed, id as u32, pass), masks_of(&t));
+            same("set", (required, passed, id, pass), proved::set(required, passed, id as u32, pass.into()), masks_of(&t));
         }
     }
 }
@@ -152,7 +152,10 @@ pub fn checks(random: u64) {
         table(&mut supervisor, required, passed, &[id]);
     }
     for id in beyond(CHECK_COUNT as u32) {
-        same("set, no check", id, proved::set(5, 3, id, true), 5 << 32 | 3);
+        same("set, no check", id, proved::set(5, 3, id, 1), 5 << 32 | 3);
+    }
+    for pass in [2, 3, 255, 256, 257, u32::MAX] {
+        same("set, a flag above 1", pass, proved::set(5, 3, 1, pass), proved::set(5, 3, 1, 0));
     }
     println!("leaf: checks: {} pairs of masks of no, one, all but one and all bits, {random} random pairs", single.len() * single.len());
 }

@@ -1,6 +1,8 @@
-//! The proved functions of crates/exports: numbers and slices of numbers, a float as its bits, a flag as 0 or 1.
+//! The proved functions of crates/exports: numbers and slices of numbers, a float as its bits. A flag is 1 where it is true; 0 is answered where it is false, and
+//! any number but 1 is read so.
 
-/// The numbers that a battery is: the pack 0..7, the estimator 8..16, what is shown 17..25, the silence and two flags 26..28.
+/// The numbers that a battery is: the pack 0..7, the estimator 8..16, what is shown 17..25, the silence and two flags 26..28. A slice may have more, which stay
+/// as they are.
 pub const BATTERY_SIZE: usize = 29;
 
 /// The answer where a number stands for nothing.
@@ -18,7 +20,7 @@ mod linked {
         pub fn bartsemmo_is_airborne(mode: u32) -> u32;
         pub fn bartsemmo_policy(triggers: u32) -> u32;
         pub fn bartsemmo_evaluate(latched: u32, triggers: u32) -> u32;
-        pub fn bartsemmo_set(required: u32, passed: u32, id: u32, pass: bool) -> u64;
+        pub fn bartsemmo_set(required: u32, passed: u32, id: u32, pass: u32) -> u64;
         pub fn bartsemmo_outstanding(required: u32, passed: u32) -> u32;
         pub fn bartsemmo_blocker(required: u32, passed: u32) -> u32;
         pub fn bartsemmo_battery_new(numbers: *mut u32, length: usize) -> u32;
@@ -50,18 +52,18 @@ safe! {
     is_airborne = bartsemmo_is_airborne(mode: u32) -> u32;
     policy = bartsemmo_policy(triggers: u32) -> u32;
     evaluate = bartsemmo_evaluate(latched: u32, triggers: u32) -> u32;
-    set = bartsemmo_set(required: u32, passed: u32, id: u32, pass: bool) -> u64;
+    set = bartsemmo_set(required: u32, passed: u32, id: u32, pass: u32) -> u64;
     outstanding = bartsemmo_outstanding(required: u32, passed: u32) -> u32;
     blocker = bartsemmo_blocker(required: u32, passed: u32) -> u32;
 }
 
-/// `Battery::new` for the pack of the first eight numbers; 1 where the slice is too short.
+/// `Battery::new` for the pack of the first eight numbers; 0, or 1 where the slice has under 29 numbers, which are then as they were.
 pub fn battery_new(numbers: &mut [u32]) -> u32 {
     // SAFETY: total, and touches the slice alone.
     unsafe { linked::bartsemmo_battery_new(numbers.as_mut_ptr(), numbers.len()) }
 }
 
-/// `Battery::update`; 1 where the slice is too short.
+/// `Battery::update`, with a reading of kind 0 nothing, 1 volts, any other volts and amps; 0, or 1 where the slice has under 29 numbers, which are then as they were.
 pub fn battery_update(numbers: &mut [u32], dt: u32, kind: u32, volts: u32, amps: u32) -> u32 {
     // SAFETY: total, and touches the slice alone.
     unsafe { linked::bartsemmo_battery_update(numbers.as_mut_ptr(), numbers.len(), dt, kind, volts, amps) }

@@ -14,7 +14,9 @@ abbrev μ-loop : tie.MeasureT-loop
 μ-loop out₀ numbers at₀ k₀ out at k = length numbers - k
 
 returns : tie.Need-returns Inv-loop μ-loop
-returns c = no-room _ _ (c .if1 .taken)
+returns c =
+    let a = c .before .before .before .args in
+    no-room (a .numbers .now) (a .out .now) (omega (arith, c .if1 .taken))
 
 loop-holds : tie.Need-loop-holds Inv-loop μ-loop
 loop-holds c = wrote-first _ _

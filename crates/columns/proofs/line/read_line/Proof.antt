@@ -1,36 +1,26 @@
--- `read_line` is `readWithin`: the length is tried first, and then a turn reads a field.
-use Prim.Native.Nat.{ℕ, _+_, _-_, _*_, _/_, _%_, _≤_, _<_, min}
-use native.Mathlib.Nat.{min-le-left, min-le-right, le-min}
+-- `read_line` is `lineAnswer` and `numbersOver`: the length and the places are tried first, and then a turn reads a field.
+use Prim.Native.Nat.{ℕ, _+_, _-_, _*_, _/_, _%_, _≤_, _<_}
 use native.Mathlib.Omega.{arith}
-use mathlib.Core.Path.{_≡_, refl, sym, _∙_}
-use lib.ListN.{length, length-set}
-use lib.Seq.{length-take-le}
+use mathlib.Core.Path.{_≡_, refl, sym, ap, _∙_}
+use mathlib.Core.Bool.{true}
+use lib.ListN.{length}
+use Rattle.columns.specs.declared.line.LineRead.the-variants.{Numbers}
 use Rattle.columns.specs.Field.{fieldWidth}
-use Rattle.columns.specs.Line.{readingOf, readWithin, fields}
-use Rattle.columns.proofs.LineAgain.{within-ok, within-none, within-uneven, within-long}
+use Rattle.columns.specs.Line.{Reading, countOf, lengthOk}
+use Rattle.columns.proofs.LineAgain.{length-ok, length-none, length-uneven, length-long}
+use Rattle.columns.proofs.LineOver.{bad-answer, bad-over, few-answer, few-over, room-answer, room-over}
 use Rattle.columns.proofs.LineTurns.{ReadTo, read-first, read-next, read-bad, read-last}
+use borrow.Author.Needs.{needs}
 use Rattle.columns.proofs.line.read_line.Statement.{statement}
 use Rattle.columns.proofs.line.read_line.Tie as tie
 
 abbrev Inv-loop : tie.InvT-loop
-Inv-loop line limit numbers₀ n count at₀ k₀ numbers at k = ReadTo line count numbers at k × (length numbers ≡ length numbers₀)
+Inv-loop line limit numbers₀ n count at₀ k₀ numbers at k = ReadTo line count numbers₀ numbers at k
 
 abbrev μ-loop : tie.MeasureT-loop
 μ-loop line limit numbers₀ n count at₀ k₀ numbers at k = count - k
 
 -- lengths and places
-some : (n : ℕ) → (n ≡ 0 → ⊥) → 0 < n
-some n h = omega arith
-
-most : (n limit room : ℕ) → n % fieldWidth ≡ 0 → n / fieldWidth ≤ limit → n / fieldWidth ≤ room → n ≤ fieldWidth * min limit room
-most n limit room h k l = omega (arith, le-min k l)
-
-over : (n limit room : ℕ) → limit < n / fieldWidth → fieldWidth * min limit room < n
-over n limit room h = omega (arith, min-le-left limit room)
-
-over-room : (n limit room : ℕ) → room < n / fieldWidth → fieldWidth * min limit room < n
-over-room n limit room h = omega (arith, min-le-right limit room)
-
 whole : (n : ℕ) → fieldWidth * (n / fieldWidth) ≤ n
 whole n = omega arith
 
@@ -40,50 +30,48 @@ field n at k h e = omega arith
 place : (k count room long : ℕ) → k < count → count ≤ room → long ≡ room → k < long
 place k count room long h l e = omega arith
 
-places : (k count room long : ℕ) → k ≤ count → count ≤ room → long ≡ room → k ≤ long
-places k count room long h l e = omega arith
-
 less : (k count : ℕ) → k < count → count - (k + 1) < count - k
 less k count h = omega arith
 
--- at the loop the length has been tried
-even : (c : tie.At-loop Inv-loop μ-loop)
-    → let a = c .before .before .before .before .before .before .before .args in
-    readWithin (min (a .limit) (length (a .numbers .now))) (a .line .now) ≡ fields (length (a .line .now) / fieldWidth) (a .line .now)
-even c =
-    let a = c .before .before .before .before .before .before .before .args in
-    within-ok (min (a .limit) (length (a .numbers .now))) (a .line .now) (some _ (c .before .before .before .before .if1 .left)) (c .before .before .before .if2 .left)
-    (most _ _ _ (c .before .before .before .if2 .left) (c .before .before .if3 .left) (c .before .if4 .left))
-
 returns : tie.Need-returns Inv-loop μ-loop
-unfolding readingOf
 returns c =
     let a = c .before .before .before .args in
-    (sym (within-none _ (a .line .now) (c .if1 .taken)), tt)
+    let bad = length-none (a .limit) _ (c .if1 .taken) in
+    (bad-answer (a .limit) (a .line .now) (a .numbers .now) _ bad, bad-over (a .limit) (a .line .now) (a .numbers .now) bad)
 
 returns-2 : tie.Need-returns-2 Inv-loop μ-loop
-unfolding readingOf
 returns-2 c =
     let a = c .before .before .before .before .args in
-    (sym (within-uneven _ (a .line .now) (c .if2 .taken)), tt)
+    let bad = length-uneven (a .limit) _ (c .if2 .taken) in
+    (bad-answer (a .limit) (a .line .now) (a .numbers .now) _ bad, bad-over (a .limit) (a .line .now) (a .numbers .now) bad)
 
 returns-3 : tie.Need-returns-3 Inv-loop μ-loop
-unfolding readingOf
 returns-3 c =
     let a = c .before .before .before .before .before .args in
-    (sym (within-long _ (a .line .now) (over _ _ _ (c .if3 .taken))), tt)
+    let bad = length-long (a .limit) (length (a .line .now)) (omega (arith, c .if3 .taken)) in
+    (bad-answer (a .limit) (a .line .now) (a .numbers .now) _ bad, bad-over (a .limit) (a .line .now) (a .numbers .now) bad)
 
 returns-4 : tie.Need-returns-4 Inv-loop μ-loop
-unfolding readingOf
 returns-4 c =
     let a = c .before .before .before .before .before .before .args in
-    (sym (within-long _ (a .line .now) (over-room _ _ _ (c .if4 .taken))), tt)
+    let ok = length-ok (a .limit) (length (a .line .now)) (omega (arith, c .before .before .before .if1 .left)) (c .before .before .if2 .left)
+    (omega (arith, c .before .before .if2 .left, c .before .if3 .left)) in
+    (few-answer (a .limit) (a .line .now) (a .numbers .now) ok (c .if4 .taken), few-over (a .limit) (a .line .now) (a .numbers .now) (c .if4 .taken))
+
+-- at the loop the length is right
+even : (c : tie.At-loop Inv-loop μ-loop)
+    → let a = c .before .before .before .before .before .before .before .args in
+    lengthOk (a .limit) (length (a .line .now)) ≡ true
+even c =
+    let a = c .before .before .before .before .before .before .before .args in
+    length-ok (a .limit) (length (a .line .now)) (omega (arith, c .before .before .before .before .if1 .left)) (c .before .before .before .if2 .left)
+    (omega (arith, c .before .before .before .if2 .left, c .before .before .if3 .left))
 
 loop-holds : tie.Need-loop-holds Inv-loop μ-loop
-loop-holds c = (read-first _ _ _, refl)
+loop-holds c = read-first _ _ _
 
 read-field-requires : tie.Need-read-field-requires Inv-loop μ-loop
-read-field-requires c κs = field _ _ _ (c .loop-test .taken) (c .before .loop .inv .0 .place)
+read-field-requires c κs = field _ _ _ (c .loop-test .taken) (c .before .loop .inv .place)
 
 enum-known-v : tie.Need-enum-known-v Inv-loop μ-loop
 enum-known-v c = c .match .keys1
@@ -92,25 +80,25 @@ enum-told : tie.Need-enum-told Inv-loop μ-loop
 enum-told c = c .match .keys2
 
 same-length : tie.Need-same-length Inv-loop μ-loop
-same-length c = c .before .before .before .before .loop .inv .1
+same-length c = search needs
 
 returns-5 : tie.Need-returns-5 Inv-loop μ-loop
-unfolding readingOf
 returns-5 c =
     let turn = c .before .before .before in
     let l = turn .before .loop in
     let a = turn .before .before .before .before .before .before .before .before .args in
-    let bad = sym (c .before .before .read-field .ensures) ∙ c .enum-told .given .1 in (
-      sym (even (turn .before)
-          ∙ read-bad (a .line .now) (length (a .line .now) / fieldWidth) (l .numbers) (l .at) (l .k) (whole _) (turn .loop-test .taken) (l .inv .0) bad),
-      tt,
+    let room = turn .before .before .if4 .left in
+    let bad = sym (c .before .before .read-field .ensures) ∙ c .enum-told .given .1 in
+    let left = read-bad (a .line .now) _ (a .numbers .now) (l .numbers) (l .at) (l .k) (l .inv) room (whole _) (turn .loop-test .taken) bad in (
+      sym (room-answer (a .limit) (a .line .now) (a .numbers .now) (even (turn .before)) room ∙ ap countOf (left .0)),
+      left .1 ∙ sym (room-over (a .limit) (a .line .now) (a .numbers .now) (even (turn .before)) room),
     )
 
 mul-numbers : tie.Need-mul-numbers Inv-loop μ-loop
 mul-numbers c = omega arith
 
 slice-write-numbers : tie.Need-slice-write-numbers Inv-loop μ-loop
-slice-write-numbers c = place _ _ _ _ (c .before .before .before .before .loop-test .taken) (c .before .before .before .before .before .before .if4 .left) (c .before .before .before .before .before .loop .inv .1)
+slice-write-numbers c = place _ _ _ _ (c .before .before .before .before .loop-test .taken) (c .before .before .before .before .before .before .if4 .left) (c .before .before .before .before .before .loop .inv .long)
 
 add-at : tie.Need-add-at Inv-loop μ-loop
 add-at c = omega arith
@@ -126,21 +114,21 @@ loop-again c =
     let turn = c .before .before .before .before in
     let l = turn .before .loop in
     let a = turn .before .before .before .before .before .before .before .before .args in
-    let number = sym (c .before .before .before .read-field .ensures) ∙ c .before .v .given .1 in (
-      read-next (a .line .now) (length (a .line .now) / fieldWidth) (l .numbers) (l .at) (l .k) (whole _) (turn .loop-test .taken) (l .inv .0) _
-          (place _ _ _ _ (turn .loop-test .taken) (turn .before .before .if4 .left) (l .inv .1)) number,
-      simp length-set (l .inv .1),
-    )
+    let number = sym (c .before .before .before .read-field .ensures) ∙ c .before .v .given .1 in
+    read-next (a .line .now) _ (a .numbers .now) (l .numbers) (l .at) (l .k) (l .inv) (turn .before .before .if4 .left) _ (whole _) (turn .loop-test .taken) number
 
 same-length-2 : tie.Need-same-length-2 Inv-loop μ-loop
-same-length-2 c = c .before .loop .inv .1
+same-length-2 c = c .before .loop .inv .long
 
 returns-6 : tie.Need-returns-6 Inv-loop μ-loop
-unfolding readingOf
 returns-6 c =
     let l = c .before .loop in
-    let room : l .k ≤ length (l .numbers) = places _ _ _ _ (l .inv .0 .most) (c .before .before .if4 .left) (l .inv .1) in
-    (sym (even (c .before) ∙ read-last _ _ _ _ _ (c .loop-test .left) (l .inv .0)), (room, sym (length-take-le _ _ room)))
+    let a = c .before .before .before .before .before .before .before .before .args in
+    let room = c .before .before .if4 .left in
+    let all = read-last (a .line .now) _ (a .numbers .now) (l .numbers) (l .at) (l .k) (l .inv) room (c .loop-test .left) in (
+      ap Numbers (all .1 .0) ∙ sym (room-answer (a .limit) (a .line .now) (a .numbers .now) (even (c .before)) room ∙ ap countOf (all .0)),
+      all .1 .1 ∙ sym (room-over (a .limit) (a .line .now) (a .numbers .now) (even (c .before)) room),
+    )
 
 pub read-line-spec : {M : Type 1} → statement M
 read-line-spec =

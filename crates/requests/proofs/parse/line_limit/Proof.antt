@@ -1,11 +1,11 @@
 use native.Mathlib.Omega.{arith}
 use borrow.Author.Needs.{needs}
-use Rattle.requests.proofs.Asking.{read-short, read-kinded, kinded-most}
+use Rattle.requests.proofs.Asking.{length-short, length-kinded, kinded-most}
 use Rattle.requests.proofs.parse.line_limit.Statement.{statement}
 use Rattle.requests.proofs.parse.line_limit.Tie as tie
 
 returns : tie.Need-returns
-returns c = (read-short _ (c .if1 .taken), omega arith)
+returns c = (length-short _ (c .if1 .taken), omega arith)
 
 read-kind-requires : tie.Need-read-kind-requires
 read-kind-requires c κs = search needs
@@ -15,7 +15,7 @@ limit-fields-requires c κs = search needs
 
 returns-2 : tie.Need-returns-2
 returns-2 c = (
-  read-kinded _ _ _ (c .limit-fields .ensures) (c .before .read-kind .ensures),
+  length-kinded _ _ _ (c .limit-fields .ensures) (c .before .read-kind .ensures),
   kinded-most _ _ (c .limit-fields .ensures),
 )
 

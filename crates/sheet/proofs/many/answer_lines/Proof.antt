@@ -101,21 +101,21 @@ legs-from-requires : tie.Need-legs-from-requires Inv-loop μ-loop
 legs-from-requires c κs = search needs
 
 slice-aggregate-answer-flight : tie.Need-slice-aggregate-answer-flight Inv-loop μ-loop
-slice-aggregate-answer-flight c = sym (c .before .before .before .before .before .before .before .before .before .before .before .asked .ensures .1)
+slice-aggregate-answer-flight c = sym (c .before .before .before .before .before .before .before .before .before .before .before .asked .ensures .1 .0)
 
 answer-flight-requires : tie.Need-answer-flight-requires Inv-loop μ-loop
-answer-flight-requires c κs = omega (arith, c .before .before .before .before .before .before .before .before .before .before .before .asked .ensures .1)
+answer-flight-requires c κs = omega (arith, c .before .before .before .before .before .before .before .before .before .before .before .asked .ensures .1 .0)
 
 enum-known-kind-2 : tie.Need-enum-known-kind-2 Inv-loop μ-loop
 enum-known-kind-2 c = search needs
 
 slice-aggregate-answer-other : tie.Need-slice-aggregate-answer-other Inv-loop μ-loop
-slice-aggregate-answer-other c = sym (c .before .before .before .before .asked .ensures .1)
+slice-aggregate-answer-other c = sym (c .before .before .before .before .asked .ensures .1 .0)
 
 answer-other-requires : tie.Need-answer-other-requires Inv-loop μ-loop
 answer-other-requires c κs =
     let asked = c .before .before .before .before .asked in
-    (subst (λ (k : Kind). KindListed k (asked .last .1 .0)) (c .before .before .kind2 .given .1) (asked .ensures .0 .1), asked .ensures .1)
+    (subst (λ (k : Kind). KindListed k (asked .last .1 .0)) (c .before .before .kind2 .given .1) (asked .ensures .0 .1), asked .ensures .1 .0)
 
 -- what either entry leaves
 replied-is : (c : tie.At-match-came Inv-loop μ-loop) →
@@ -140,7 +140,7 @@ replied-is c =
           let legs = legs-are (l .waypoints) long (l .flight .config) (l .flight .mission) (w .5 .result) (w .6 .result) (w .9 .result) (w .5 .ensures) (w .6 .ensures) (w .9 .ensures) in
           let left = subst (λ (x : Legs). of (flightStepOf (l .flight) (l .opened) (l .report-due) x (flightAsks call))) legs (told .ensures) in
           let is = sym (ap (kindAsks (asked .last .1 .0)) (w .1 .given .1)) ∙ asked .ensures .0 .0 in
-          let wide : length ns ≡ mostFields = told .kept .1 .1 .1 .1 .1 .0 ∙ asked .ensures .1 in (
+          let wide : length ns ≡ mostFields = told .kept .1 .1 .1 .1 .1 .0 ∙ asked .ensures .1 .0 in (
             replied-as _ (answeredBy s (askedLine line)) _ _ ns (m .numbers) answerFields (m .count) (replied-flight s call (told .result) ns left (omega (arith, wide))) (ap (answeredBy s) is)
                 (λ i. stateOf (w .15 i) (w .16 i) (w .17 i) (w .18 i)) (w .14) (w .19),
             (ap (λ (x : List ℕ). length x) (w .14) ∙ wide, ap (λ (x : List Point). length x) (w .16) ∙ long),
@@ -149,7 +149,7 @@ replied-is c =
           let other = w .4 in
           let ns = other .last .1 .1 .0 in
           let is = sym (ap (kindAsks (asked .last .1 .0)) (w .1 .given .1)) ∙ asked .ensures .0 .0 in
-          let wide : length ns ≡ mostFields = other .kept .1 .1 .0 ∙ asked .ensures .1 in (
+          let wide : length ns ≡ mostFields = other .kept .1 .1 .0 ∙ asked .ensures .1 .0 in (
             replied-as _ (answeredBy s (askedLine line)) _ _ ns (m .numbers) (other .result .count) (m .count) (other .ensures) (ap (answeredBy s) is)
                 (λ i. stateOf (w .10 i) (w .11 i) (w .12 i) (w .13 i)) (w .9) (w .14),
             (ap (λ (x : List ℕ). length x) (w .9) ∙ wide, ap (λ (x : List Point). length x) (w .11) ∙ (simp length-map at (other .ok .1 .1 .0 .1 .1 .1 .0 .1 .0 .1))),
