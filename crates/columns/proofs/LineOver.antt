@@ -1,10 +1,10 @@
 -- What the line reader answers and leaves in its array. Assumes nothing.
-use Prim.Native.Nat.{ℕ, zero, suc, _*_, _/_, _%_, _≤_, _<_}
+use Prim.Native.Nat.{ℕ, zero, suc, _*_, _/_, _≤_, _<_}
 use native.Mathlib.Omega.{arith}
 use native.Mathlib.Decide.{decLe}
 use mathlib.Core.Path.{_≡_, refl, sym, ap, _∙_}
 use mathlib.Core.Bool.{Bool, true, false, cond, _&&_, and-false}
-use mathlib.Core.List.{List, [], _∷_, _++_}
+use mathlib.Core.List.{List, _∷_}
 use lib.Dec.{leb}
 use lib.ListN.{length, take, drop, length-append}
 use lib.Seq.{take-append-seam}
@@ -13,7 +13,7 @@ use Rattle.columns.specs.declared.field.FieldRead.{FieldRead}
 use Rattle.columns.specs.declared.line.LineRead.{LineRead}
 use Rattle.columns.specs.declared.line.LineRead.the-variants.{Numbers, Broken, NoRoom}
 use Rattle.columns.specs.Field.{fieldWidth, readField}
-use Rattle.columns.specs.Line.{Reading, read, broken, fields, lengthOk, readWithin, lineOf, countOf, lineAnswer, upTo, leading, over, numbersOver, readingOf}
+use Rattle.columns.specs.Line.{Reading, read, broken, fields, lengthOk, readWithin, countOf, lineAnswer, upTo, leading, over, numbersOver}
 use Rattle.columns.proofs.LineAgain.{length-ok, length-long, within-ok, Before, before-is, IsLine, line-only}
 use Rattle.columns.proofs.Writing.{length-line}
 
@@ -121,6 +121,12 @@ module _ (limit : ℕ) (s : List ℕ) where
   -- where none is
   pub read-not : (places : ℕ) → limit ≤ places → ((n : ℕ) → lineAnswer limit s places ≡ Numbers n → ⊥) → readWithin limit s ≡ broken
   read-not places h none = not-counted (readWithin limit s) (λ n e. none n (enough limit s places h ∙ e))
+
+-- what a line says, by the answer of `read_line` and the array after it, where there was room
+unfoldable pub readingOf : LineRead → List ℕ → Reading
+readingOf (Numbers k) a = read (take k a)
+readingOf Broken a = broken
+readingOf NoRoom a = broken
 
 reading-by : (limit : ℕ) (s a : List ℕ) (x : Reading) → limit ≤ length a → readWithin limit s ≡ x → readingOf (countOf x) (numbersOver limit s a) ≡ x
 unfolding readingOf

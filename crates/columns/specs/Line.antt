@@ -1,6 +1,5 @@
 -- A line of document 01's sheet: the numbers of its fields, or refusal 2.
-use Prim.Native.Nat.{ℕ, zero, suc, _+_, _*_, _/_, _%_, _^_, _≤_, _<_}
-use mathlib.Core.Path.{_≡_}
+use Prim.Native.Nat.{ℕ, zero, suc, _+_, _*_, _/_, _%_, _^_, _<_}
 use mathlib.Core.Bool.{Bool, cond, _&&_}
 use mathlib.Core.List.{List, [], _∷_, _++_}
 use lib.Dec.{eqb, leb, ltb}
@@ -87,9 +86,3 @@ over ns a = ns ++ drop (length ns) a
 -- the array after `read_line`: as it was where the line's length is bad or the places are too few, else the numbers before the first bad field and the rest as it was
 unfoldable pub numbersOver : ℕ → List ℕ → List ℕ → List ℕ
 numbersOver limit s a = cond (lengthOk limit (length s) && leb (length s / fieldWidth) (length a)) (over (leading (length s / fieldWidth) s) a) a
-
--- what a line says, by the answer of `read_line` and the array after it, where there was room
-unfoldable pub readingOf : LineRead → List ℕ → Reading
-readingOf (Numbers k) a = read (take k a)
-readingOf Broken a = broken
-readingOf NoRoom a = broken
