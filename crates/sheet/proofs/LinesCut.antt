@@ -2,11 +2,10 @@
 use Prim.Native.Nat.{ℕ, zero, suc, _+_, _*_, _<_}
 use native.Mathlib.Nat.{mul-suc}
 use native.Mathlib.Omega.{arith}
-use native.Mathlib.Decide.{decLe}
 use mathlib.Core.Path.{_≡_, refl, sym, ap, _∙_}
 use mathlib.Core.List.{List, [], _∷_, _++_, map, append-nil, append-assoc}
 use lib.ListN.{length, take, length-append}
-use lib.Seq.{take-all, take-nil}
+use lib.Seq.{take-nil}
 use Rattle.sheet.specs.Lines.{newline, whole, joined, rest, lastLine, linesOf, together, answers, statesAfter, stream}
 use Rattle.sheet.proofs.LinesAgain.{AllBare, bare-append, bare-take, whole-bare, joined-rest, rest-bare, rest-all, lines-joined, lines-split}
 
@@ -93,48 +92,34 @@ module _ {S : Type 0} (after : S → List ℕ → S) (reply : S → List ℕ →
       last : (n : ℕ) → width + suc n ≡ n + (width + 1)
       last n = omega arith
 
-  -- a line over the limit is answered by its first bytes, one more than the limit
-  module _ (limit : ℕ)
-      (cut-after : (s : S) (l : List ℕ) → limit < length l → after s l ≡ after s (take (limit + 1) l))
-      (cut-reply : (s : S) (l : List ℕ) → limit < length l → reply s l ≡ reply s (take (limit + 1) l)) where
-    after-cut : (s : S) (l : List ℕ) → after s l ≡ after s (take (limit + 1) l)
-    after-cut s l =
-        elim (decLe (length l) limit) [
-          | yes h ↦ ap (after s) (sym (take-all (limit + 1) l (omega arith)))
-          | no q ↦ cut-after s l (omega arith)
-        ]
-
-    reply-cut : (s : S) (l : List ℕ) → reply s l ≡ reply s (take (limit + 1) l)
-    reply-cut s l =
-        elim (decLe (length l) limit) [
-          | yes h ↦ ap (reply s) (sym (take-all (limit + 1) l (omega arith)))
-          | no q ↦ cut-reply s l (omega arith)
-        ]
-
-    answers-cut : (s : S) (ls : List (List ℕ)) → answers after reply s ls ≡ answers after reply s (map (take (limit + 1)) ls)
+  -- a line is answered by its first bytes, as many as are kept of a line begun
+  module _ (kept : ℕ) (some : 0 < kept)
+      (after-cut : (s : S) (l : List ℕ) → after s l ≡ after s (take kept l))
+      (reply-cut : (s : S) (l : List ℕ) → reply s l ≡ reply s (take kept l)) where
+    answers-cut : (s : S) (ls : List (List ℕ)) → answers after reply s ls ≡ answers after reply s (map (take kept) ls)
     unfolding answers
     answers-cut s [] = refl
     answers-cut s (l ∷ ls) =
         ap (λ (r : List ℕ). r ++ (newline ∷ answers after reply (after s l) ls)) (reply-cut s l)
-        ∙ ap (λ (t : S). reply s (take (limit + 1) l) ++ (newline ∷ answers after reply t ls)) (after-cut s l)
-        ∙ ap (λ (r : List ℕ). reply s (take (limit + 1) l) ++ (newline ∷ r)) (answers-cut (after s (take (limit + 1) l)) ls)
+        ∙ ap (λ (t : S). reply s (take kept l) ++ (newline ∷ answers after reply t ls)) (after-cut s l)
+        ∙ ap (λ (r : List ℕ). reply s (take kept l) ++ (newline ∷ r)) (answers-cut (after s (take kept l)) ls)
 
     -- the answers of an input whose begun line was cut
-    answers-begun : (s : S) (q t : List ℕ) → whole q ≡ [] → answers after reply s (linesOf (take (limit + 1) q ++ t)) ≡ answers after reply s (linesOf (q ++ t))
+    answers-begun : (s : S) (q t : List ℕ) → whole q ≡ [] → answers after reply s (linesOf (take kept q ++ t)) ≡ answers after reply s (linesOf (q ++ t))
     answers-begun s q t bare =
-        answers-cut s (linesOf (take (limit + 1) q ++ t))
-        ∙ ap (answers after reply s) (cut-begun (limit + 1) (omega arith) q bare t)
+        answers-cut s (linesOf (take kept q ++ t))
+        ∙ ap (answers after reply s) (cut-begun kept some q bare t)
         ∙ sym (answers-cut s (linesOf (q ++ t)))
 
     -- from a line begun: the parts to come give the answers of all that is left
     pub stream-whole : (s : S) (q : List ℕ) (cs : List (List ℕ)) → whole q ≡ []
-        → stream after reply limit s (take (limit + 1) q) cs ≡ answers after reply s (linesOf (q ++ together cs))
+        → stream after reply kept s (take kept q) cs ≡ answers after reply s (linesOf (q ++ together cs))
     unfolding stream together
     stream-whole s q [] bare =
-        ap (answers after reply s) (sym (lines-none (take (limit + 1) q) (bare-take (limit + 1) q bare)) ∙ ap linesOf (sym (append-nil (take (limit + 1) q))))
+        ap (answers after reply s) (sym (lines-none (take kept q) (bare-take kept q bare)) ∙ ap linesOf (sym (append-nil (take kept q))))
         ∙ answers-begun s q [] bare
     stream-whole s q (c ∷ cs) bare =
-        let p : List ℕ = take (limit + 1) q in
+        let p : List ℕ = take kept q in
         ap (λ (r : List ℕ). answers after reply s (whole (p ++ c)) ++ r)
         (stream-whole (statesAfter after s (whole (p ++ c))) (rest (p ++ c)) cs (rest-bare (p ++ c)))
         ∙ sym (answers-append s (whole (p ++ c)) (linesOf (rest (p ++ c) ++ together cs)))
@@ -142,6 +127,6 @@ module _ {S : Type 0} (after : S → List ℕ → S) (reply : S → List ℕ →
         ∙ answers-begun s q (c ++ together cs) bare
 
     -- "a last line without newline too": an input in parts has the answers of its lines
-    pub stream-all : (s : S) (cs : List (List ℕ)) → stream after reply limit s [] cs ≡ answers after reply s (linesOf (together cs))
+    pub stream-all : (s : S) (cs : List (List ℕ)) → stream after reply kept s [] cs ≡ answers after reply s (linesOf (together cs))
     unfolding whole
-    stream-all s cs = ap (λ (p : List ℕ). stream after reply limit s p cs) (sym (take-nil (limit + 1))) ∙ stream-whole s [] cs refl
+    stream-all s cs = ap (λ (p : List ℕ). stream after reply kept s p cs) (sym (take-nil kept)) ∙ stream-whole s [] cs refl

@@ -2,19 +2,21 @@
 use Prim.Native.Nat.{ℕ, _+_, _-_, _*_, _≤_, _<_}
 use native.Mathlib.Nat.{zero-add}
 use native.Mathlib.Omega.{arith}
+use native.Mathlib.Decide.{decLe}
 use mathlib.Core.Path.{_≡_, refl, sym, ap, _∙_}
 use mathlib.Core.List.{List, [], _∷_, _++_}
 use lib.ListN.{length, take, drop, length-append}
-use lib.Seq.{length-take-le}
+use lib.Seq.{length-take-le, take-all}
+use lib.Dec.{lit≤}
 use Rattle.falcon_core.specs.declared.supervisor.Supervisor.{Supervisor}
 use Rattle.sheet.specs.declared.many.Progress.{Progress}
 use Rattle.columns.specs.Field.{fieldWidth, put}
 use Rattle.columns.specs.Line.{Reading, lineOf}
 use Rattle.columns.proofs.Writing.{length-line}
-use Rattle.sheet.specs.Lines.{newline, whole, joined, lineEnd, lastLine, linesOf, together, answers, stream}
+use Rattle.sheet.specs.Lines.{newline, whole, joined, lineEnd, lastLine, keptWidth, linesOf, together, answers, stream}
 use Rattle.requests.specs.Kinds.{answeredBy}
 use Rattle.requests.specs.ByLine.{needOf, replyNumbers, replyOf}
-use Rattle.requests.specs.Parse.{mostFields, askedBy, askedLine}
+use Rattle.requests.specs.Parse.{mostFields, readingLine, askedBy, askedLine}
 use Rattle.sheet.specs.Many.{afterLine, replyLine, fittingRoom, fitting, EndsFitting, replies, progressOf, answersOver}
 use Rattle.requests.proofs.Asking.{reading-cut}
 use Rattle.requests.proofs.Buffer.{reply-fits}
@@ -41,13 +43,26 @@ module _ (s : Supervisor) (l ns : List ℕ) (is : ns ≡ replyNumbers (answeredB
   pub reply-long : fieldWidth * length ns ≡ length (replyLine s l)
   reply-long = sym (length-line ns) ∙ ap (λ (m : List ℕ). length m) reply-line
 
+-- the bytes kept of a line say what the line says: one byte over the limit shows that it is too long
+reading-kept : (l : List ℕ) → readingLine l ≡ readingLine (take keptWidth l)
+reading-kept l =
+    elim (decLe (length l) (fieldWidth * mostFields)) [
+      | yes h ↦ ap readingLine (sym (take-all keptWidth l (omega arith)))
+      | no q ↦ reading-cut l (omega arith)
+    ]
+
+pub after-kept : (s : Supervisor) (l : List ℕ) → afterLine s l ≡ afterLine s (take keptWidth l)
+unfolding afterLine askedLine
+after-kept s l = ap (λ (r : Reading). answeredBy s (askedBy r) .supervisor) (reading-kept l)
+
+pub reply-kept : (s : Supervisor) (l : List ℕ) → replyLine s l ≡ replyLine s (take keptWidth l)
+unfolding replyLine askedLine
+reply-kept s l = ap (λ (r : Reading). replyOf (answeredBy s (askedBy r))) (reading-kept l)
+
 -- an input that is read in parts, cut anywhere, has the answers of its lines
-pub in-parts : (s : Supervisor) (cs : List (List ℕ)) → stream afterLine replyLine (fieldWidth * mostFields) s [] cs ≡ replies s (linesOf (together cs))
-unfolding afterLine replyLine replies askedLine
-in-parts =
-    stream-all afterLine replyLine (fieldWidth * mostFields)
-    (λ s l h. ap (λ (r : Reading). answeredBy s (askedBy r) .supervisor) (reading-cut l h))
-    (λ s l h. ap (λ (r : Reading). replyOf (answeredBy s (askedBy r))) (reading-cut l h))
+pub in-parts : (s : Supervisor) (cs : List (List ℕ)) → stream afterLine replyLine keptWidth s [] cs ≡ replies s (linesOf (together cs))
+unfolding replies
+in-parts = stream-all afterLine replyLine keptWidth (lit≤ tt) after-kept reply-kept
 
 -- ---- what `next_fitting` answers
 
