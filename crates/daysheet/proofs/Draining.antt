@@ -8,13 +8,13 @@ use lib.ListN.{length, take, drop, length-take, length-drop, length-append}
 use lib.Seq.{take-all}
 use Rattle.falcon_core.specs.declared.supervisor.Supervisor.{Supervisor}
 use Rattle.sheet.specs.declared.many.Progress.{Progress}
-use Rattle.sheet.specs.Lines.{whole, joined, statesAfter}
+use Rattle.sheet.specs.Lines.{whole, joined, lastLine, statesAfter}
 use Rattle.requests.specs.ByLine.{needOf}
 use Rattle.requests.proofs.Buffer.{needs-most}
 use Rattle.sheet.specs.Many.{replyMost, afterLine, replyLine, fittingRoom, fitting, replies, progressOf}
 use Rattle.sheet.proofs.LinesAgain.{joined-append, whole-most, whole-off, used-most}
 use Rattle.sheet.proofs.LinesCut.{states-append}
-use Rattle.sheet.proofs.LinesFit.{fit-more}
+use Rattle.sheet.proofs.LinesFit.{fit-more, fit-none}
 use Rattle.sheet.proofs.Replies.{written-most, fitting-prefix}
 
 take-more : (ls : List (List ℕ)) (k n : ℕ) → take (k + n) ls ≡ take k ls ++ take n (drop k ls)
@@ -37,6 +37,14 @@ unfolding fitting
 fitting-some s [] out h none = omega arith
 fitting-some s (l ∷ ls) out h none =
     absurd (omega (arith, needs-most l, ap length (fit-more afterLine replyLine needOf s l ls (length out) (omega (arith, needs-most l)))))
+
+-- and a last line without newline does
+pub last-fits : (s : Supervisor) (l out : List ℕ) → replyMost ≤ length out → fitting s (lastLine l) out ≡ lastLine l
+unfolding fitting lastLine
+last-fits s [] out h = fit-none afterLine replyLine needOf s (length out)
+last-fits s (b ∷ l) out h =
+    fit-more afterLine replyLine needOf s (b ∷ l) [] (length out) (omega (arith, needs-most (b ∷ l)))
+    ∙ ap (λ (ls : List (List ℕ)). (b ∷ l) ∷ ls) (fit-none afterLine replyLine needOf _ _)
 
 module _ (s₀ : Supervisor) (input : List ℕ) where
   -- k lines are answered and written, and the next are in the buffer

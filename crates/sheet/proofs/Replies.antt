@@ -1,6 +1,6 @@
 -- Many lines answered into one buffer: the lines that fit, and a sheet cut into parts. Assumes nothing.
-use Prim.Native.Nat.{ℕ, _+_, _-_, _*_, _≤_, _<_}
-use native.Mathlib.Nat.{zero-add}
+use Prim.Native.Nat.{ℕ, min, _+_, _-_, _*_, _≤_, _<_}
+use native.Mathlib.Nat.{zero-add, min-eq-left}
 use native.Mathlib.Omega.{arith}
 use native.Mathlib.Decide.{decLe}
 use mathlib.Core.Path.{_≡_, refl, sym, ap, _∙_}
@@ -13,15 +13,15 @@ use Rattle.sheet.specs.declared.many.Progress.{Progress}
 use Rattle.columns.specs.Field.{fieldWidth, put}
 use Rattle.columns.specs.Line.{Reading, lineOf}
 use Rattle.columns.proofs.Writing.{length-line}
-use Rattle.sheet.specs.Lines.{newline, whole, joined, lineEnd, lastLine, keptWidth, linesOf, together, answers, stream}
+use Rattle.sheet.specs.Lines.{newline, whole, joined, rest, lineEnd, lastLine, keptWidth, linesOf, together, answers, statesAfter, stream}
 use Rattle.requests.specs.Kinds.{answeredBy}
 use Rattle.requests.specs.ByLine.{needOf, replyNumbers, replyOf}
 use Rattle.requests.specs.Parse.{mostFields, readingLine, askedBy, askedLine}
-use Rattle.sheet.specs.Many.{afterLine, replyLine, fittingRoom, fitting, EndsFitting, replies, progressOf, answersOver}
+use Rattle.sheet.specs.Many.{afterLine, replyLine, fittingRoom, fitting, EndsFitting, replies, progressTo, progressOf, progressIn, answersOver}
 use Rattle.requests.proofs.Asking.{reading-cut}
 use Rattle.requests.proofs.Buffer.{reply-fits}
 use Rattle.sheet.proofs.LinesAgain.{used-most, line-at, line-none}
-use Rattle.sheet.proofs.LinesCut.{stream-all}
+use Rattle.sheet.proofs.LinesCut.{cut-last, states-part, answers-cut, stream-all}
 use Rattle.sheet.proofs.LinesTurns.{Going}
 use Rattle.sheet.proofs.LinesFit.{fit-full, fit-more, fit-none, fit-prefix, fit-room}
 
@@ -63,6 +63,18 @@ reply-kept s l = ap (λ (r : Reading). replyOf (answeredBy s (askedBy r))) (read
 pub in-parts : (s : Supervisor) (cs : List (List ℕ)) → stream afterLine replyLine keptWidth s [] cs ≡ replies s (linesOf (together cs))
 unfolding replies
 in-parts = stream-all afterLine replyLine keptWidth (lit≤ tt) after-kept reply-kept
+
+-- a part more: the state is that after the whole lines of all that was read
+pub state-part : (s : Supervisor) (q c : List ℕ)
+    → statesAfter afterLine (statesAfter afterLine s (whole q)) (whole (take keptWidth (rest q) ++ c)) ≡ statesAfter afterLine s (whole (q ++ c))
+state-part = states-part afterLine keptWidth (lit≤ tt) after-kept
+
+-- the bytes kept of a last line have its answer
+pub last-kept : (s : Supervisor) (r : List ℕ) → replies s (lastLine (take keptWidth r)) ≡ replies s (lastLine r)
+unfolding replies
+last-kept s r =
+    ap (answers afterLine replyLine s) (sym (cut-last keptWidth r (lit≤ tt)))
+    ∙ sym (answers-cut afterLine replyLine keptWidth (lit≤ tt) after-kept reply-kept s (lastLine r))
 
 -- ---- what `next_fitting` answers
 
@@ -126,9 +138,13 @@ module _ (s₀ : Supervisor) (input d : List ℕ) (s : Supervisor) (used at k : 
 -- ---- what `answer_last` answers
 
 -- no line is answered
-pub over-none : (s : Supervisor) (ls : List (List ℕ)) (out : List ℕ) → ls ≡ [] → (0 ≡ length (replies s ls)) × (out ≡ answersOver s ls out)
-unfolding answersOver replies answers
-over-none s ls out e = (ap (λ (ms : List (List ℕ)). length (replies s ms)) (sym e), ap (λ (ms : List (List ℕ)). answersOver s ms out) (sym e))
+pub over-none : (s : Supervisor) (ls : List (List ℕ)) (input out : List ℕ) (p : Progress) → p ≡ progressOf s [] → ls ≡ []
+    → (p ≡ progressIn input s ls) × (out ≡ answersOver s ls out)
+unfolding answersOver replies answers progressOf progressIn joined
+over-none s ls input out p is e = (
+  is ∙ ap (λ (n : ℕ). progressTo n s []) (sym (min-eq-left (omega arith))) ∙ ap (progressIn input s) (sym e),
+  ap (λ (ms : List (List ℕ)). answersOver s ms out) (sym e),
+)
 
 pub last-none : (s : Supervisor) (input out : List ℕ) → length input ≡ 0 → fitting s (lastLine input) out ≡ []
 unfolding fitting lastLine
@@ -148,13 +164,19 @@ last-one s (b ∷ input) out q h =
     ∙ ap (λ (ls : List (List ℕ)). (b ∷ input) ∷ ls)
     (fit-none afterLine replyLine needOf (afterLine s (b ∷ input)) (length out - (length (replyLine s (b ∷ input)) + 1)))
 
-pub last-answer : (s : Supervisor) (input out next : List ℕ) → (length input ≡ 0 → ⊥) → needOf input < length out
+pub last-answer : (s : Supervisor) (input out next : List ℕ) (t : Supervisor) (n : ℕ) → (length input ≡ 0 → ⊥) → needOf input < length out
     → next ≡ put out 0 (replyLine s input ++ (newline ∷ []))
-    → (length (replyLine s input) + 1 ≡ length (replies s (fitting s (lastLine input) out))) × (next ≡ answersOver s (fitting s (lastLine input) out) out)
-unfolding put replies answers answersOver
-last-answer s input out next q h e =
-    let one : fitting s (lastLine input) out ≡ input ∷ [] = last-one s input out q h in (
-      sym (length-append (replyLine s input) (newline ∷ [])) ∙ ap (λ (ls : List (List ℕ)). length (replies s ls)) (sym one),
+    → t ≡ afterLine s input
+    → n ≡ length (replyLine s input) + 1
+    → (_≡_ {A = Progress} (record { supervisor = t; used = length input; written = n; lines = 1 }) (progressIn input s (fitting s (lastLine input) out)))
+    × (next ≡ answersOver s (fitting s (lastLine input) out) out)
+unfolding put replies answers answersOver progressIn statesAfter joined
+last-answer s input out next t n q h e is wide =
+    let one : fitting s (lastLine input) out ≡ input ∷ [] = last-one s input out q h in
+    let long : n ≡ length (replies s (input ∷ [])) = wide ∙ sym (length-append (replyLine s input) (newline ∷ [])) in
+    let used : length input ≡ min (length (joined (input ∷ []))) (length input) = omega (arith, length-append input (newline ∷ [])) in
+    let here : _≡_ {A = Progress} (record { supervisor = t; used = length input; written = n; lines = 1 }) (progressIn input s (input ∷ [])) = cc in (
+      here ∙ ap (progressIn input s) (sym one),
       e
           ∙ ap (λ (n : ℕ). (replyLine s input ++ (newline ∷ [])) ++ drop n out) (zero-add (length (replyLine s input ++ (newline ∷ []))))
           ∙ ap (λ (ls : List (List ℕ)). answersOver s ls out) (sym one),
@@ -184,3 +206,7 @@ module _ (s : Supervisor) (input out : List ℕ) (p : Progress) (is : p ≡ prog
   pub progress-used : p .used ≤ length input
   unfolding progressOf
   progress-used = omega (arith, ap (λ (q : Progress). q .used) is, read-most s input out)
+
+pub within-written : (s : Supervisor) (ls : List (List ℕ)) (input out : List ℕ) (p : Progress) → p ≡ progressIn input s (fitting s ls out) → p .written ≤ length out
+unfolding progressIn
+within-written s ls input out p is = omega (arith, ap (λ (q : Progress). q .written) is, written-most s ls out)

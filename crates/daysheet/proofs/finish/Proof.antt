@@ -1,48 +1,30 @@
+use Prim.Native.Nat.{ℕ}
 use native.Mathlib.Omega.{arith}
-use mathlib.Core.Path.{sym}
-use lib.ListN.{length-set}
-use lib.Seq.{length-take-le}
+use mathlib.Core.Path.{ap, _∙_}
+use mathlib.Core.List.{List}
 use borrow.Author.Needs.{needs}
+use Rattle.sheet.specs.Many.{answersOver}
+use Rattle.sheet.proofs.Replies.{within-written}
+use Rattle.daysheet.proofs.Draining.{last-fits}
 use Rattle.daysheet.proofs.finish.Statement.{statement}
 use Rattle.daysheet.proofs.finish.Tie as tie
 
-returns : tie.Need-returns
-returns c = search needs
+answer-last-requires : tie.Need-answer-last-requires
+answer-last-requires c κs = search needs
 
-slice-write-buf : tie.Need-slice-write-buf
-slice-write-buf c = search needs
-
-add-end : tie.Need-add-end
-add-end c = search needs
-
-slice-reshare-prefix-drain : tie.Need-slice-reshare-prefix-drain
-slice-reshare-prefix-drain c = simp length-set (omega arith)
-
-slice-aggregate-drain : tie.Need-slice-aggregate-drain
-slice-aggregate-drain c = sym (length-take-le _ _ (simp length-set (omega arith)))
-
-drain-requires : tie.Need-drain-requires
-drain-requires c κs = search needs
+write-requires : tie.Need-write-requires
+write-requires c κs =
+    let call = c .before .before .before .answer-last in
+    omega (arith, call .kept .1 .1 .0, within-written _ _ _ _ (call .result) (call .ensures .0))
 
 same-length : tie.Need-same-length
 same-length c = search needs
 
-same-length-2 : tie.Need-same-length-2
-same-length-2 c = search needs
-
-returns-2 : tie.Need-returns-2
-returns-2 c = search needs
+returns : tie.Need-returns
+returns c =
+    let a = c .before .before .before .before .before .before .before .before .args in
+    c .before .before .before .before .answer-last .ensures .1 .0
+    ∙ ap (λ (ls : List (List ℕ)). answersOver (a .s) ls (a .out .now)) (last-fits (a .s) (a .line .now) (a .out .now) (c .before .before .before .before .before .before .before .before .pre))
 
 pub finish-spec : {M : Type 1} → statement M
-finish-spec =
-    tie.close
-    (tie.spec
-    returns
-    slice-write-buf
-    add-end
-    slice-reshare-prefix-drain
-    slice-aggregate-drain
-    drain-requires
-    same-length
-    same-length-2
-    returns-2)
+finish-spec = tie.close (tie.spec answer-last-requires write-requires same-length returns)
