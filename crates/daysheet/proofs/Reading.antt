@@ -9,6 +9,7 @@ use Rattle.falcon_core.specs.declared.supervisor.Supervisor.{Supervisor}
 use Rattle.falcon_core.specs.Supervisor.{unopened}
 use Rattle.sheet.specs.Lines.{keptWidth, keptOf, whole, joined, rest, lastLine, linesOf, together, statesAfter}
 use Rattle.sheet.specs.Many.{afterLine, replies}
+use Rattle.sheet.proofs.LinesAgain.{bare-take, rest-bare}
 use Rattle.sheet.proofs.LinesTurns.{kept-rest}
 use Rattle.sheet.proofs.LinesCut.{kept-part, together-snoc}
 use Rattle.sheet.proofs.Replies.{state-part, last-kept}
@@ -68,6 +69,10 @@ reads-more s p s′ p′ g r =
           ∙ kept-part keptWidth (lit≤ tt) q c
           ∙ ap (λ (t : List ℕ). take keptWidth (rest t)) all;
     }
+
+-- the bytes kept hold no newline
+pub reads-bare : (s : Supervisor) (p : List ℕ) → ReadsAll s p → whole p ≡ []
+reads-bare s p g = ap whole (g .begun) ∙ bare-take keptWidth (rest (together (g .parts))) (rest-bare (together (g .parts)))
 
 -- what `finish` answers then completes the answers to all that was read
 pub reads-finished : (s : Supervisor) (p : List ℕ) → (g : ReadsAll s p)

@@ -2,6 +2,7 @@
 
 ghost use Prim.Native.Nat.{_≤_, _<_};
 ghost use mathlib.Core.Path.{_≡_};
+ghost use mathlib.Core.List.{[]};
 ghost use lib.ListN.{length, take};
 ghost use Rattle.sheet.specs.Lines.{keptWidth, whole, joined, lastLine, statesAfter};
 ghost use Rattle.sheet.specs.Many.{replyMost, afterLine, answersOver};
@@ -11,7 +12,6 @@ use libc::STDERR_FILENO;
 use libc::STDIN_FILENO;
 use libc::STDOUT_FILENO;
 use sheet::lines::keep;
-use sheet::many::answer_last;
 use sheet::many::answer_lines;
 
 // How many bytes are at hand after a read, and whether it did not fail.
@@ -129,12 +129,19 @@ fn read_all(buf: &mut [u8], out: &mut [u8]) -> Kept
     kept
 }
 
-// Answers a last line without newline, where there is one. Answers whether all answers were written.
-fn finish(s: Supervisor, is_written: bool, line: &[u8], out: &mut [u8]) -> bool
-    requires { ⌜ replyMost ≤ length (now out) ⌝ }
-    ensures { λ _. ⌜ now (out .exit) ≡ answersOver s (lastLine (now (line .entry))) (now (out .entry)) ⌝ }
+// Answers a last line without newline, where there is one. Answers whether all answers were written. A newline is put behind the line and not
+// `answer_last` called: what a line goes through then has one caller and is inlined into the loop over the lines (docs/SPEED.md).
+fn finish(s: Supervisor, is_written: bool, buf: &mut [u8], have: usize, out: &mut [u8]) -> bool
+    requires { ⌜ (have < length (now buf)) × (replyMost ≤ length (now out)) ⌝ }
+    requires { ⌜ whole (take have (now buf)) ≡ [] ⌝ }
+    ensures { λ _. ⌜ now (out .exit) ≡ answersOver s (lastLine (take have (now (buf .entry)))) (now (out .entry)) ⌝ }
 {
-    let last = answer_last(s, line, out);
+    if have == 0 {
+        return is_written;
+    }
+    buf[have] = b'\n';
+    let end = have + 1;
+    let last = answer_lines(s, &buf[..end], out);
     let n = last.written;
     write(is_written, out, n)
 }
@@ -150,7 +157,7 @@ fn answer_all(buf: &mut [u8], out: &mut [u8])
     }
     let supervisor = kept.supervisor;
     let have = kept.have;
-    if !finish(supervisor, kept.is_written, &buf[..have], out) {
+    if !finish(supervisor, kept.is_written, buf, have, out) {
         io::write_all(
             STDERR_FILENO,
             b"daysheet: standard output cannot be written\n",

@@ -1,6 +1,5 @@
-use mathlib.Core.Path.{sym}
-use lib.Seq.{length-take-le}
 use borrow.Author.Needs.{needs}
+use Rattle.daysheet.proofs.Reading.{reads-bare}
 use Rattle.daysheet.proofs.answer_all.Statement.{statement}
 use Rattle.daysheet.proofs.answer_all.Tie as tie
 
@@ -22,14 +21,8 @@ same-length-2 c = search needs
 returns : tie.Need-returns
 returns c = search needs
 
-slice-reshare-prefix-finish : tie.Need-slice-reshare-prefix-finish
-slice-reshare-prefix-finish c = search needs
-
-slice-aggregate-finish : tie.Need-slice-aggregate-finish
-slice-aggregate-finish c = sym (length-take-le _ _ (slice-reshare-prefix-finish (c .before)))
-
 finish-requires : tie.Need-finish-requires
-finish-requires c κs = search needs
+finish-requires c κs = ((search needs, search needs), reads-bare _ _ (c .before .before .before .before .before .before .before .before .before .read-all .ensures .1))
 
 slice-aggregate-write-all-2 : tie.Need-slice-aggregate-write-all-2
 slice-aggregate-write-all-2 c = search needs
@@ -65,8 +58,6 @@ answer-all-spec =
     same-length
     same-length-2
     returns
-    slice-reshare-prefix-finish
-    slice-aggregate-finish
     finish-requires
     slice-aggregate-write-all-2
     write-all-requires-2
