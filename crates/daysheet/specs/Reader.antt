@@ -1,4 +1,4 @@
--- What is known of the input as it is read: the state and the line begun, by the parts read so far.
+-- "The program `daysheet` reads standard input": the state and the line begun, by the parts that the reads gave.
 use Prim.Native.Nat.{ℕ}
 use mathlib.Core.Path.{_≡_}
 use mathlib.Core.List.{List, _++_}
@@ -8,7 +8,7 @@ use Rattle.falcon_core.specs.Supervisor.{unopened}
 use Rattle.sheet.specs.Lines.{keptWidth, whole, rest, together, statesAfter}
 use Rattle.sheet.specs.Many.{afterLine}
 
--- one read, as `stream` has it: the state and the bytes kept of the line begun, before a part and after it
+-- one read is a step of `stream`: the state and the bytes kept of the line begun, before its part and after it
 pub record ReadsPart (s : Supervisor) (p : List ℕ) (s′ : Supervisor) (p′ : List ℕ) : Type 0 where
   pub part : List ℕ
   pub state : s′ ≡ statesAfter afterLine s (whole (p ++ part))
