@@ -1,20 +1,21 @@
--- The turns of `drain`: lines answered a buffer at a time. Assumes nothing.
-use Prim.Native.Nat.{ℕ, zero, suc, _+_, _≤_}
+-- The turns of `drain`: lines answered a buffer at a time; and the last line of `finish`. Assumes nothing.
+use Prim.Native.Nat.{ℕ, zero, suc, _+_, _≤_, _<_}
 use native.Mathlib.Nat.{zero-add, suc-add}
+use native.Mathlib.Numerals.{add-one}
 use native.Mathlib.Omega.{arith}
 use mathlib.Core.Path.{_≡_, refl, sym, ap, _∙_}
 use mathlib.Core.List.{List, [], _∷_, _++_}
-use lib.ListN.{length, take, drop, length-take, length-drop, length-append}
-use lib.Seq.{take-all}
+use lib.ListN.{length, set, take, drop, length-take, length-drop, length-append}
+use lib.Seq.{length-take-le, take-all, take-suc-set}
 use Rattle.falcon_core.specs.declared.supervisor.Supervisor.{Supervisor}
 use Rattle.sheet.specs.declared.many.Progress.{Progress}
-use Rattle.sheet.specs.Lines.{whole, joined, statesAfter}
+use Rattle.sheet.specs.Lines.{newline, whole, joined, lastLine, answers, statesAfter}
 use Rattle.requests.specs.ByLine.{needOf}
 use Rattle.requests.proofs.Buffer.{needs-most}
-use Rattle.sheet.specs.Many.{replyMost, afterLine, replyLine, fittingRoom, fitting, replies, progressOf}
-use Rattle.sheet.proofs.LinesAgain.{joined-append, whole-most, whole-off, used-most}
+use Rattle.sheet.specs.Many.{replyMost, afterLine, replyLine, fittingRoom, fitting, replies, progressOf, answersOver}
+use Rattle.sheet.proofs.LinesAgain.{whole-line, joined-append, whole-most, whole-off, used-most}
 use Rattle.sheet.proofs.LinesCut.{states-append}
-use Rattle.sheet.proofs.LinesFit.{fit-more}
+use Rattle.sheet.proofs.LinesFit.{fit-more, fit-none}
 use Rattle.sheet.proofs.Replies.{written-most, fitting-prefix}
 
 take-more : (ls : List (List ℕ)) (k n : ℕ) → take (k + n) ls ≡ take k ls ++ take n (drop k ls)
@@ -131,3 +132,40 @@ module _ (s₀ : Supervisor) (input : List ℕ) where
     pub drains-last : p .lines ≤ 0 → (s ≡ statesAfter afterLine s₀ (whole input)) × (used ≡ length (joined (whole input)))
     drains-last h =
         (g .state ∙ ap (statesAfter afterLine s₀) (all-done h), g .read ∙ ap (λ (ls : List (List ℕ)). length (joined ls)) (all-done h))
+
+-- ---- a last line, with a newline put behind it
+
+-- a line fits
+last-fits : (s : Supervisor) (l out : List ℕ) → replyMost ≤ length out → fitting s (lastLine l) out ≡ lastLine l
+unfolding fitting lastLine
+last-fits s [] out h = fit-none afterLine replyLine needOf s (length out)
+last-fits s (b ∷ l) out h =
+    fit-more afterLine replyLine needOf s (b ∷ l) [] (length out) (omega (arith, needs-most (b ∷ l)))
+    ∙ ap (λ (ls : List (List ℕ)). (b ∷ l) ∷ ls) (fit-none afterLine replyLine needOf _ _)
+
+last-some : (l : List ℕ) → (length l ≡ 0 → ⊥) → l ∷ [] ≡ lastLine l
+unfolding lastLine
+last-some [] q = absurd (q refl)
+last-some (b ∷ l) q = refl
+
+module _ (s : Supervisor) (buf out : List ℕ) (have : ℕ) where
+  pub finish-none : have ≡ 0 → out ≡ answersOver s (lastLine (take have buf)) out
+  unfolding answersOver replies answers lastLine
+  finish-none e = ap (λ (n : ℕ). answersOver s (lastLine (take n buf)) out) (sym e)
+
+  module _ (fits : have < length buf) (bare : whole (take have buf) ≡ []) (some : have ≡ 0 → ⊥) where
+    one-line : whole (take (have + 1) (set buf have newline)) ≡ lastLine (take have buf)
+    unfolding whole
+    one-line =
+        ap (λ (n : ℕ). whole (take n (set buf have newline))) (add-one have)
+        ∙ ap whole (take-suc-set buf have newline fits)
+        ∙ whole-line (take have buf) [] bare
+        ∙ last-some (take have buf) (λ e. some (sym (length-take-le have buf (omega arith)) ∙ e))
+
+    pub finish-one : (last : List ℕ) → replyMost ≤ length out
+        → last ≡ answersOver s (fitting s (whole (take (have + 1) (set buf have newline))) out) out
+        → last ≡ answersOver s (lastLine (take have buf)) out
+    finish-one last room is =
+        is
+        ∙ ap (λ (ls : List (List ℕ)). answersOver s (fitting s ls out) out) one-line
+        ∙ ap (λ (ls : List (List ℕ)). answersOver s ls out) (last-fits s (take have buf) out room)

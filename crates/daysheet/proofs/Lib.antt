@@ -1,1 +1,2 @@
 mod Draining
+mod Reading

@@ -1,15 +1,24 @@
-// Reads a sheet from standard input and answers each of its lines on standard output.
+// Reads a sheet from standard input and answers each of its lines on standard output. A read or a write that fails is said on standard error.
 
-ghost use Prim.Native.Nat.{_+_, _≤_, _<_};
+ghost use Prim.Native.Nat.{_≤_, _<_};
 ghost use mathlib.Core.Path.{_≡_};
-ghost use lib.ListN.{length};
-ghost use Rattle.sheet.specs.Lines.{keptWidth, whole, joined, statesAfter};
-ghost use Rattle.sheet.specs.Many.{replyMost, afterLine};
+ghost use mathlib.Core.List.{[]};
+ghost use lib.ListN.{length, take};
+ghost use Rattle.sheet.specs.Lines.{keptWidth, whole, joined, lastLine, statesAfter};
+ghost use Rattle.sheet.specs.Many.{replyMost, afterLine, answersOver};
+ghost use Rattle.daysheet.specs.Reader.{ReadsPart, ReadsAll};
 use falcon_core::supervisor::Supervisor;
+use libc::STDERR_FILENO;
 use libc::STDIN_FILENO;
 use libc::STDOUT_FILENO;
 use sheet::lines::keep;
 use sheet::many::answer_lines;
+
+// How many bytes are at hand after a read, and whether it did not fail.
+struct Filled {
+    end: usize,
+    is_read: bool,
+}
 
 // The state after the lines of a read, the bytes that they took, and whether all answers so far were written.
 struct Drained {
@@ -18,21 +27,27 @@ struct Drained {
     is_written: bool,
 }
 
-// The state and the bytes at hand after a read, whether all answers so far were written, and whether more may be read.
+// The state and the bytes at hand after a read, whether it and all writes so far did not fail, and whether more may be read.
 struct Kept {
     supervisor: Supervisor,
     have: usize,
+    is_read: bool,
     is_written: bool,
     goes_on: bool,
 }
 
-// One read behind the bytes at hand. Answers how many are at hand then; a read that fails counts as the input's end.
-fn fill(buf: &mut [u8], have: usize) -> usize
-    requires { ⌜ have ≤ length (now buf) ⌝ }
-    ensures { λ r. ⌜ r ≤ length (now (buf .exit)) ⌝ }
+// One read behind the bytes at hand, which stay. There is room, so that a read of no bytes is the input's end.
+fn fill(buf: &mut [u8], have: usize) -> Filled
+    requires { ⌜ have < length (now buf) ⌝ }
+    ensures { λ r. ⌜ (have ≤ r .end) × (r .end ≤ length (now (buf .exit))) ⌝ }
+    ensures { λ _. ⌜ take have (now (buf .exit)) ≡ take have (now (buf .entry)) ⌝ }
 {
     let got = libc::read(STDIN_FILENO, &mut buf[have..]);
-    have + io::count(got, &buf[have..])
+    let end = have + io::count(got, &buf[have..]);
+    Filled {
+        end,
+        is_read: got >= 0,
+    }
 }
 
 // Writes the first n bytes, unless an earlier write failed.
@@ -73,10 +88,12 @@ fn drain(s: Supervisor, input: &[u8], out: &mut [u8]) -> Drained
 
 // One read, the answers of the lines that it ends, and what is kept of the line begun.
 fn turn(s: Supervisor, buf: &mut [u8], have: usize, out: &mut [u8]) -> Kept
-    requires { ⌜ (have ≤ length (now buf)) × (replyMost ≤ length (now out)) ⌝ }
-    ensures { λ r. ⌜ (r .have ≤ keptWidth) × (r .have ≤ length (now (buf .entry))) ⌝ }
+    requires { ⌜ (have < length (now buf)) × (replyMost ≤ length (now out)) ⌝ }
+    ensures { λ r. ⌜ r .have ≤ keptWidth ⌝ }
+    ensures { λ r. ⌜ ReadsPart s (take have (now (buf .entry))) (r .supervisor) (take (r .have) (now (buf .exit))) ⌝ }
 {
-    let end = fill(buf, have);
+    let filled = fill(buf, have);
+    let end = filled.end;
     let drained = drain(s, &buf[..end], out);
     let supervisor = drained.supervisor;
     let used = drained.used;
@@ -84,50 +101,68 @@ fn turn(s: Supervisor, buf: &mut [u8], have: usize, out: &mut [u8]) -> Kept
     Kept {
         supervisor,
         have: kept,
+        is_read: filled.is_read,
         is_written: drained.is_written,
         goes_on: drained.is_written & (have < end),
     }
 }
 
-// A last line without newline: one is put behind it.
-fn finish(s: Supervisor, is_written: bool, buf: &mut [u8], have: usize, out: &mut [u8])
-    requires { ⌜ (have < length (now buf)) × (replyMost ≤ length (now out)) ⌝ }
+// Reads until the input ends or a read or a write fails. A proved loop has to end, so it counts its turns down from a number that no run uses up.
+fn read_all(buf: &mut [u8], out: &mut [u8]) -> Kept
+    requires { ⌜ (keptWidth < length (now buf)) × (replyMost ≤ length (now out)) ⌝ }
+    ensures { λ r. ⌜ r .have ≤ keptWidth ⌝ }
+    ensures { λ r. ⌜ ReadsAll (r .supervisor) (take (r .have) (now (buf .exit))) ⌝ }
 {
-    if (have == 0) | !is_written {
-        return;
+    let mut kept = Kept {
+        supervisor: Supervisor::new(),
+        have: 0,
+        is_read: true,
+        is_written: true,
+        goes_on: true,
+    };
+    let mut turns = u64::MAX;
+    while turns > 0 && kept.goes_on {
+        let supervisor = kept.supervisor;
+        kept = turn(supervisor, buf, kept.have, out);
+        turns -= 1;
+    }
+    kept
+}
+
+// Answers a last line without newline, where there is one. Answers whether all answers were written. A newline is put behind the line and not
+// `answer_last` called: what a line goes through then has one caller and is inlined into the loop over the lines (docs/SPEED.md).
+fn finish(s: Supervisor, is_written: bool, buf: &mut [u8], have: usize, out: &mut [u8]) -> bool
+    requires { ⌜ (have < length (now buf)) × (replyMost ≤ length (now out)) ⌝ }
+    requires { ⌜ whole (take have (now buf)) ≡ [] ⌝ }
+    ensures { λ _. ⌜ now (out .exit) ≡ answersOver s (lastLine (take have (now (buf .entry)))) (now (out .entry)) ⌝ }
+{
+    if have == 0 {
+        return is_written;
     }
     buf[have] = b'\n';
     let end = have + 1;
-    drain(s, &buf[..end], out);
+    let last = answer_lines(s, &buf[..end], out);
+    let n = last.written;
+    write(is_written, out, n)
 }
 
-// The turns left: one less, or none at the input's end.
-fn turns_left(goes_on: bool, turns: u64) -> u64
-    requires { ⌜ 1 ≤ turns ⌝ }
-    ensures { λ r. ⌜ r + 1 ≤ turns ⌝ }
-{
-    if goes_on {
-        return turns - 1;
-    }
-    0
-}
-
-// Reads to the input's end. A proved loop has to end, so it counts its turns down from a number that no run uses up.
+// A line begun is answered at the input's end alone: where a read fails nobody knows how it goes on.
 fn answer_all(buf: &mut [u8], out: &mut [u8])
     requires { ⌜ (keptWidth < length (now buf)) × (replyMost ≤ length (now out)) ⌝ }
 {
-    let mut supervisor = Supervisor::new();
-    let mut have = 0;
-    let mut is_written = true;
-    let mut turns = u64::MAX;
-    while 0 < turns {
-        let t = turn(supervisor, buf, have, out);
-        supervisor = t.supervisor;
-        have = t.have;
-        is_written = t.is_written;
-        turns = turns_left(t.goes_on, turns);
+    let kept = read_all(buf, out);
+    if !kept.is_read {
+        io::write_all(STDERR_FILENO, b"daysheet: standard input cannot be read\n");
+        return;
     }
-    finish(supervisor, is_written, buf, have, out);
+    let supervisor = kept.supervisor;
+    let have = kept.have;
+    if !finish(supervisor, kept.is_written, buf, have, out) {
+        io::write_all(
+            STDERR_FILENO,
+            b"daysheet: standard output cannot be written\n",
+        );
+    }
 }
 
 fn main() {

@@ -1,8 +1,11 @@
 // Answers document 01's examples, the harness's cases and a sample of generated sheets, which standard input has one after the other.
 
-ghost use Prim.Native.Nat.{_≤_};
 ghost use mathlib.Core.Path.{_≡_};
+ghost use mathlib.Core.Bool.{true};
 ghost use lib.ListN.{length};
+ghost use Rattle.falcon_core.specs.Supervisor.{unopened};
+ghost use Rattle.sheet.specs.Lines.{linesOf};
+ghost use Rattle.sheet.specs.Many.{fitting};
 use columns::field::FIELD;
 use columns::field::FieldRead;
 use columns::field::read_field_of;
@@ -25,10 +28,14 @@ fn buffer() -> [u8; 131072]
     [0; 131072]
 }
 
-// Answers a sheet, with no opening yet, on standard output.
-fn write_answers(sheet: &[u8], out: &mut [u8]) {
-    let n = answer_sheet(sheet, out);
+// Answers a sheet, with no opening yet, on standard output. Answers whether the answers to all its lines fit the buffer.
+fn write_answers(sheet: &[u8], out: &mut [u8]) -> bool
+    ensures { λ r. ⌜ (r ≡ true → fitting unopened (linesOf (now (sheet .entry))) (now (out .entry)) ≡ linesOf (now (sheet .entry))) ⌝ }
+{
+    let progress = answer_sheet(sheet, out);
+    let n = progress.written;
     io::write_all(STDOUT_FILENO, &out[..n]);
+    progress.used == sheet.len()
 }
 
 // The length of the sheet that follows, or 0 where the bytes before it say none.
@@ -43,7 +50,7 @@ fn length_in(head: &[u8]) -> usize {
     count as usize
 }
 
-// Reads a sheet of n bytes, and writes its answers behind its name. Answers whether the sheet was there.
+// Reads a sheet of n bytes, and writes its answers behind its name. Answers whether the sheet was there and all its answers fit.
 fn replay(head: &[u8], n: usize, sheet: &mut [u8], out: &mut [u8]) -> bool {
     if sheet.len() < n {
         return false;
@@ -53,11 +60,10 @@ fn replay(head: &[u8], n: usize, sheet: &mut [u8], out: &mut [u8]) -> bool {
         return false;
     }
     io::write_all(STDOUT_FILENO, head);
-    write_answers(&sheet[..n], out);
-    true
+    write_answers(&sheet[..n], out)
 }
 
-// One sheet. Answers whether there was one.
+// One sheet. Answers whether there was one and all its answers fit.
 fn replay_next(head: &mut [u8], sheet: &mut [u8], out: &mut [u8]) -> bool {
     let got = io::read_full(STDIN_FILENO, head);
     if got != HEAD {
@@ -67,7 +73,7 @@ fn replay_next(head: &mut [u8], sheet: &mut [u8], out: &mut [u8]) -> bool {
     replay(head, n, sheet, out)
 }
 
-// Every sheet. A proved loop has to end, so it counts its turns down.
+// Every sheet, up to one whose answers do not fit. A proved loop has to end, so it counts its turns down.
 fn replay_all(head: &mut [u8], sheet: &mut [u8], out: &mut [u8]) {
     let mut turns = u64::MAX;
     while turns > 0 && replay_next(head, sheet, out) {

@@ -58,13 +58,13 @@ lines : answers counted numbered 1 (linesOf (97 ∷ 10 ∷ 10 ∷ 98 ∷ 99 ∷ 
 unfolding answers linesOf whole ahead rest joined lastLine counted numbered
 lines = refl
 
--- cut into parts, with a limit of one byte a line
-parts : stream counted numbered 1 1 [] ((97 ∷ []) ∷ (10 ∷ 10 ∷ 98 ∷ []) ∷ (99 ∷ []) ∷ (100 ∷ []) ∷ []) ≡ 49 ∷ 97 ∷ 10 ∷ 50 ∷ 10 ∷ 51 ∷ 98 ∷ 99 ∷ 10 ∷ []
+-- cut into parts, with two bytes kept of a line begun
+parts : stream counted numbered 2 1 [] ((97 ∷ []) ∷ (10 ∷ 10 ∷ 98 ∷ []) ∷ (99 ∷ []) ∷ (100 ∷ []) ∷ []) ≡ 49 ∷ 97 ∷ 10 ∷ 50 ∷ 10 ∷ 51 ∷ 98 ∷ 99 ∷ 10 ∷ []
 unfolding stream statesAfter answers whole ahead rest joined lastLine counted numbered
 parts = refl
 
 -- and cut anywhere
-anywhere : (cs : List (List ℕ)) → stream counted numbered 1 1 [] cs ≡ answers counted numbered 1 (linesOf (together cs))
+anywhere : (cs : List (List ℕ)) → stream counted numbered 2 1 [] cs ≡ answers counted numbered 1 (linesOf (together cs))
 unfolding counted numbered
 anywhere =
-    stream-all counted numbered 1 (λ s l h. refl) (λ s l h. ap (λ (t : List ℕ). (48 + s) ∷ t) (sym (take-take 2 2 l (lit≤ tt)))) 1
+    stream-all counted numbered 2 (lit≤ tt) (λ s l. refl) (λ s l. ap (λ (t : List ℕ). (48 + s) ∷ t) (sym (take-take 2 2 l (lit≤ tt)))) 1

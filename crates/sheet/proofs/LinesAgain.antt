@@ -159,6 +159,18 @@ lines-split s t =
     ∙ ap linesOf (append-assoc (joined (whole s)) (rest s) t)
     ∙ lines-joined (whole s) (rest s ++ t) (whole-bare s)
 
+pub whole-split : (s t : List ℕ) → whole (s ++ t) ≡ whole s ++ whole (rest s ++ t)
+whole-split s t =
+    ap (λ (r : List ℕ). whole (r ++ t)) (sym (joined-rest s))
+    ∙ ap whole (append-assoc (joined (whole s)) (rest s) t)
+    ∙ whole-joined (whole s) (rest s ++ t) (whole-bare s)
+
+pub rest-split : (s t : List ℕ) → rest (s ++ t) ≡ rest (rest s ++ t)
+rest-split s t =
+    ap (λ (r : List ℕ). rest (r ++ t)) (sym (joined-rest s))
+    ∙ ap rest (append-assoc (joined (whole s)) (rest s) t)
+    ∙ rest-joined (whole s) (rest s ++ t) (whole-bare s)
+
 -- ---- what a reader expects of the lines
 
 joined-last : (r : List ℕ) → (r ≡ [] → ⊥) → joined (lastLine r) ≡ r ++ (newline ∷ [])
@@ -211,6 +223,23 @@ joined-most (l ∷ ls) = omega (arith, length-append l (newline ∷ joined ls), 
 -- there are no more whole lines than bytes
 pub whole-most : (s : List ℕ) → length (whole s) ≤ length s
 whole-most s = omega (arith, joined-most (whole s), simp length-append at (ap length (joined-rest s)))
+
+last-most : (r : List ℕ) → length (lastLine r) ≤ length r
+unfolding lastLine
+last-most [] = omega arith
+last-most (b ∷ r) = omega arith
+
+-- nor more lines
+pub lines-most : (s : List ℕ) → length (linesOf s) ≤ length s
+unfolding linesOf
+lines-most s =
+    omega (
+      arith,
+      length-append (whole s) (lastLine (rest s)),
+      joined-most (whole s),
+      last-most (rest s),
+      simp length-append at (ap length (joined-rest s)),
+    )
 
 -- ---- the first n whole lines taken off the front
 

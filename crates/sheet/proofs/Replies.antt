@@ -1,25 +1,27 @@
 -- Many lines answered into one buffer: the lines that fit, and a sheet cut into parts. Assumes nothing.
-use Prim.Native.Nat.{ℕ, _+_, _-_, _*_, _≤_, _<_}
-use native.Mathlib.Nat.{zero-add}
+use Prim.Native.Nat.{ℕ, min, _+_, _-_, _*_, _≤_, _<_}
+use native.Mathlib.Nat.{zero-add, min-eq-left}
 use native.Mathlib.Omega.{arith}
+use native.Mathlib.Decide.{decLe}
 use mathlib.Core.Path.{_≡_, refl, sym, ap, _∙_}
 use mathlib.Core.List.{List, [], _∷_, _++_}
 use lib.ListN.{length, take, drop, length-append}
-use lib.Seq.{length-take-le}
+use lib.Seq.{length-take-le, take-all}
+use lib.Dec.{lit≤}
 use Rattle.falcon_core.specs.declared.supervisor.Supervisor.{Supervisor}
 use Rattle.sheet.specs.declared.many.Progress.{Progress}
 use Rattle.columns.specs.Field.{fieldWidth, put}
 use Rattle.columns.specs.Line.{Reading, lineOf}
 use Rattle.columns.proofs.Writing.{length-line}
-use Rattle.sheet.specs.Lines.{newline, whole, joined, lineEnd, lastLine, linesOf, together, answers, stream}
+use Rattle.sheet.specs.Lines.{newline, whole, joined, rest, lineEnd, lastLine, keptWidth, linesOf, together, answers, statesAfter, stream}
 use Rattle.requests.specs.Kinds.{answeredBy}
 use Rattle.requests.specs.ByLine.{needOf, replyNumbers, replyOf}
-use Rattle.requests.specs.Parse.{mostFields, askedBy, askedLine}
-use Rattle.sheet.specs.Many.{afterLine, replyLine, fittingRoom, fitting, EndsFitting, replies, progressOf, answersOver}
+use Rattle.requests.specs.Parse.{mostFields, readingLine, askedBy, askedLine}
+use Rattle.sheet.specs.Many.{afterLine, replyLine, fittingRoom, fitting, EndsFitting, replies, progressTo, progressOf, progressIn, answersOver}
 use Rattle.requests.proofs.Asking.{reading-cut}
 use Rattle.requests.proofs.Buffer.{reply-fits}
 use Rattle.sheet.proofs.LinesAgain.{used-most, line-at, line-none}
-use Rattle.sheet.proofs.LinesCut.{stream-all}
+use Rattle.sheet.proofs.LinesCut.{cut-last, states-part, answers-cut, stream-all}
 use Rattle.sheet.proofs.LinesTurns.{Going}
 use Rattle.sheet.proofs.LinesFit.{fit-full, fit-more, fit-none, fit-prefix, fit-room}
 
@@ -41,13 +43,38 @@ module _ (s : Supervisor) (l ns : List ℕ) (is : ns ≡ replyNumbers (answeredB
   pub reply-long : fieldWidth * length ns ≡ length (replyLine s l)
   reply-long = sym (length-line ns) ∙ ap (λ (m : List ℕ). length m) reply-line
 
+-- the bytes kept of a line say what the line says: one byte over the limit shows that it is too long
+reading-kept : (l : List ℕ) → readingLine l ≡ readingLine (take keptWidth l)
+reading-kept l =
+    elim (decLe (length l) (fieldWidth * mostFields)) [
+      | yes h ↦ ap readingLine (sym (take-all keptWidth l (omega arith)))
+      | no q ↦ reading-cut l (omega arith)
+    ]
+
+pub after-kept : (s : Supervisor) (l : List ℕ) → afterLine s l ≡ afterLine s (take keptWidth l)
+unfolding afterLine askedLine
+after-kept s l = ap (λ (r : Reading). answeredBy s (askedBy r) .supervisor) (reading-kept l)
+
+pub reply-kept : (s : Supervisor) (l : List ℕ) → replyLine s l ≡ replyLine s (take keptWidth l)
+unfolding replyLine askedLine
+reply-kept s l = ap (λ (r : Reading). replyOf (answeredBy s (askedBy r))) (reading-kept l)
+
 -- an input that is read in parts, cut anywhere, has the answers of its lines
-pub in-parts : (s : Supervisor) (cs : List (List ℕ)) → stream afterLine replyLine (fieldWidth * mostFields) s [] cs ≡ replies s (linesOf (together cs))
-unfolding afterLine replyLine replies askedLine
-in-parts =
-    stream-all afterLine replyLine (fieldWidth * mostFields)
-    (λ s l h. ap (λ (r : Reading). answeredBy s (askedBy r) .supervisor) (reading-cut l h))
-    (λ s l h. ap (λ (r : Reading). replyOf (answeredBy s (askedBy r))) (reading-cut l h))
+pub in-parts : (s : Supervisor) (cs : List (List ℕ)) → stream afterLine replyLine keptWidth s [] cs ≡ replies s (linesOf (together cs))
+unfolding replies
+in-parts = stream-all afterLine replyLine keptWidth (lit≤ tt) after-kept reply-kept
+
+-- a part more: the state is that after the whole lines of all that was read
+pub state-part : (s : Supervisor) (q c : List ℕ)
+    → statesAfter afterLine (statesAfter afterLine s (whole q)) (whole (take keptWidth (rest q) ++ c)) ≡ statesAfter afterLine s (whole (q ++ c))
+state-part = states-part afterLine keptWidth (lit≤ tt) after-kept
+
+-- the bytes kept of a last line have its answer
+pub last-kept : (s : Supervisor) (r : List ℕ) → replies s (lastLine (take keptWidth r)) ≡ replies s (lastLine r)
+unfolding replies
+last-kept s r =
+    ap (answers afterLine replyLine s) (sym (cut-last keptWidth r (lit≤ tt)))
+    ∙ sym (answers-cut afterLine replyLine keptWidth (lit≤ tt) after-kept reply-kept s (lastLine r))
 
 -- ---- what `next_fitting` answers
 
@@ -111,9 +138,13 @@ module _ (s₀ : Supervisor) (input d : List ℕ) (s : Supervisor) (used at k : 
 -- ---- what `answer_last` answers
 
 -- no line is answered
-pub over-none : (s : Supervisor) (ls : List (List ℕ)) (out : List ℕ) → ls ≡ [] → (0 ≡ length (replies s ls)) × (out ≡ answersOver s ls out)
-unfolding answersOver replies answers
-over-none s ls out e = (ap (λ (ms : List (List ℕ)). length (replies s ms)) (sym e), ap (λ (ms : List (List ℕ)). answersOver s ms out) (sym e))
+pub over-none : (s : Supervisor) (ls : List (List ℕ)) (input out : List ℕ) (p : Progress) → p ≡ progressOf s [] → ls ≡ []
+    → (p ≡ progressIn input s ls) × (out ≡ answersOver s ls out)
+unfolding answersOver replies answers progressOf progressIn joined
+over-none s ls input out p is e = (
+  is ∙ ap (λ (n : ℕ). progressTo n s []) (sym (min-eq-left (omega arith))) ∙ ap (progressIn input s) (sym e),
+  ap (λ (ms : List (List ℕ)). answersOver s ms out) (sym e),
+)
 
 pub last-none : (s : Supervisor) (input out : List ℕ) → length input ≡ 0 → fitting s (lastLine input) out ≡ []
 unfolding fitting lastLine
@@ -133,13 +164,19 @@ last-one s (b ∷ input) out q h =
     ∙ ap (λ (ls : List (List ℕ)). (b ∷ input) ∷ ls)
     (fit-none afterLine replyLine needOf (afterLine s (b ∷ input)) (length out - (length (replyLine s (b ∷ input)) + 1)))
 
-pub last-answer : (s : Supervisor) (input out next : List ℕ) → (length input ≡ 0 → ⊥) → needOf input < length out
+pub last-answer : (s : Supervisor) (input out next : List ℕ) (t : Supervisor) (n : ℕ) → (length input ≡ 0 → ⊥) → needOf input < length out
     → next ≡ put out 0 (replyLine s input ++ (newline ∷ []))
-    → (length (replyLine s input) + 1 ≡ length (replies s (fitting s (lastLine input) out))) × (next ≡ answersOver s (fitting s (lastLine input) out) out)
-unfolding put replies answers answersOver
-last-answer s input out next q h e =
-    let one : fitting s (lastLine input) out ≡ input ∷ [] = last-one s input out q h in (
-      sym (length-append (replyLine s input) (newline ∷ [])) ∙ ap (λ (ls : List (List ℕ)). length (replies s ls)) (sym one),
+    → t ≡ afterLine s input
+    → n ≡ length (replyLine s input) + 1
+    → (_≡_ {A = Progress} (record { supervisor = t; used = length input; written = n; lines = 1 }) (progressIn input s (fitting s (lastLine input) out)))
+    × (next ≡ answersOver s (fitting s (lastLine input) out) out)
+unfolding put replies answers answersOver progressIn statesAfter joined
+last-answer s input out next t n q h e is wide =
+    let one : fitting s (lastLine input) out ≡ input ∷ [] = last-one s input out q h in
+    let long : n ≡ length (replies s (input ∷ [])) = wide ∙ sym (length-append (replyLine s input) (newline ∷ [])) in
+    let used : length input ≡ min (length (joined (input ∷ []))) (length input) = omega (arith, length-append input (newline ∷ [])) in
+    let here : _≡_ {A = Progress} (record { supervisor = t; used = length input; written = n; lines = 1 }) (progressIn input s (input ∷ [])) = cc in (
+      here ∙ ap (progressIn input s) (sym one),
       e
           ∙ ap (λ (n : ℕ). (replyLine s input ++ (newline ∷ [])) ++ drop n out) (zero-add (length (replyLine s input ++ (newline ∷ []))))
           ∙ ap (λ (ls : List (List ℕ)). answersOver s ls out) (sym one),
@@ -169,3 +206,7 @@ module _ (s : Supervisor) (input out : List ℕ) (p : Progress) (is : p ≡ prog
   pub progress-used : p .used ≤ length input
   unfolding progressOf
   progress-used = omega (arith, ap (λ (q : Progress). q .used) is, read-most s input out)
+
+pub within-written : (s : Supervisor) (ls : List (List ℕ)) (input out : List ℕ) (p : Progress) → p ≡ progressIn input s (fitting s ls out) → p .written ≤ length out
+unfolding progressIn
+within-written s ls input out p is = omega (arith, ap (λ (q : Progress). q .written) is, written-most s ls out)

@@ -79,11 +79,11 @@ module _ {S : Type 0} (after : S → List ℕ → S) (reply : S → List ℕ →
   answers s [] = []
   answers s (l ∷ ls) = reply s l ++ (newline ∷ answers (after s l) ls)
 
-  -- the answers of a reader of parts, which keeps of the line begun no more than one byte over the limit
+  -- the answers of a reader of parts, which keeps so many bytes of the line begun
   unfoldable pub stream : ℕ → S → List ℕ → List (List ℕ) → List ℕ
-  stream limit s p [] = answers s (lastLine p)
-  stream limit s p (c ∷ cs) =
-      answers s (whole (p ++ c)) ++ stream limit (statesAfter after s (whole (p ++ c))) (take (limit + 1) (rest (p ++ c))) cs
+  stream kept s p [] = answers s (lastLine p)
+  stream kept s p (c ∷ cs) =
+      answers s (whole (p ++ c)) ++ stream kept (statesAfter after s (whole (p ++ c))) (take kept (rest (p ++ c))) cs
 
 -- a step for one line, and how much room the kind of a line wants for its answer
 module _ {S : Type 0} (after : S → List ℕ → S) (reply : S → List ℕ → List ℕ) (need : List ℕ → ℕ) where

@@ -1,5 +1,5 @@
 -- Many lines answered into one buffer.
-use Prim.Native.Nat.{ℕ, _+_, _-_, _*_, _≤_, _<_}
+use Prim.Native.Nat.{ℕ, min, _+_, _-_, _*_, _≤_, _<_}
 use mathlib.Core.Path.{_≡_}
 use mathlib.Core.List.{List, [], _++_}
 use lib.ListN.{length, take, drop}
@@ -41,15 +41,23 @@ pub record EndsFitting (input : List ℕ) (from room e : ℕ) : Type 0 where
 unfoldable pub replies : Supervisor → List (List ℕ) → List ℕ
 replies s ls = answers afterLine replyLine s ls
 
--- what `answer_lines` answers where it answered these lines
-unfoldable pub progressOf : Supervisor → List (List ℕ) → Progress
-progressOf s ls =
+-- what is answered where these lines were, and took so many bytes of the input
+abbrev pub progressTo : ℕ → Supervisor → List (List ℕ) → Progress
+progressTo used s ls =
     record {
       supervisor = statesAfter afterLine s ls;
-      used = length (joined ls);
+      used = used;
       written = length (replies s ls);
       lines = length ls;
     }
+
+-- a newline ends each of these lines
+unfoldable pub progressOf : Supervisor → List (List ℕ) → Progress
+progressOf s ls = progressTo (length (joined ls)) s ls
+
+-- the first lines of an input, "a last line without newline too": of that one its bytes alone count
+unfoldable pub progressIn : List ℕ → Supervisor → List (List ℕ) → Progress
+progressIn input s ls = progressTo (min (length (joined ls)) (length input)) s ls
 
 -- a buffer with the answers of several lines at its start, and its other bytes untouched
 unfoldable pub answersOver : Supervisor → List (List ℕ) → List ℕ → List ℕ

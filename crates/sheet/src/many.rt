@@ -8,7 +8,7 @@ ghost use Rattle.falcon_core.specs.Supervisor.{unopened};
 ghost use Rattle.columns.specs.Field.{fieldWidth, put};
 ghost use Rattle.columns.specs.Line.{lineOf};
 ghost use Rattle.sheet.specs.Lines.{newline, whole, lastLine, linesOf};
-ghost use Rattle.sheet.specs.Many.{fitting, EndsFitting, replies, progressOf, answersOver};
+ghost use Rattle.sheet.specs.Many.{fitting, EndsFitting, progressOf, progressIn, answersOver};
 use crate::entry::answer_flight;
 use crate::entry::answer_numbers;
 use crate::entry::answer_other;
@@ -127,27 +127,46 @@ pub fn answer_lines(s: Supervisor, input: &[u8], out: &mut [u8]) -> Progress
     }
 }
 
-// Answers a last line without newline, where there is one and its answer fits. Answers how many bytes were written.
-pub fn answer_last(s: Supervisor, input: &[u8], out: &mut [u8]) -> usize
-    ensures written { λ r. ⌜ r ≡ length (replies s (fitting s (lastLine (now (input .entry))) (now (out .entry)))) ⌝ }
+// What was answered where no line was.
+fn none_answered(s: Supervisor) -> Progress
+    ensures { λ r. ⌜ r ≡ progressOf s [] ⌝ }
+{
+    Progress {
+        supervisor: s,
+        used: 0,
+        written: 0,
+        lines: 0,
+    }
+}
+
+// Answers a last line without newline, where there is one and its answer fits.
+pub fn answer_last(s: Supervisor, input: &[u8], out: &mut [u8]) -> Progress
+    ensures progress { λ r. ⌜ r ≡ progressIn (now (input .entry)) s (fitting s (lastLine (now (input .entry))) (now (out .entry))) ⌝ }
     ensures buffer { λ _. ⌜ now (out .exit) ≡ answersOver s (fitting s (lastLine (now (input .entry))) (now (out .entry))) (now (out .entry)) ⌝ }
     ensures unchanged { λ _. ⌜ now (input .exit) ≡ now (input .entry) ⌝ }
 {
     if input.len() == 0 {
-        return 0;
+        return none_answered(s);
     }
     if lacks_room(input, out.len()) {
-        return 0;
+        return none_answered(s);
     }
     let mut numbers = [0u32; MOST_FIELDS];
     let replied = answer_numbers(s, input, &mut numbers);
     let count = replied.count;
-    write_reply(&numbers[..count], out, 0)
+    let written = write_reply(&numbers[..count], out, 0);
+    let supervisor = replied.supervisor;
+    Progress {
+        supervisor,
+        used: input.len(),
+        written,
+        lines: 1,
+    }
 }
 
-// Answers a sheet from the state with no opening, as many of its lines as fit the buffer. Answers how many bytes were written.
-pub fn answer_sheet(input: &[u8], out: &mut [u8]) -> usize
-    ensures written { λ r. ⌜ r ≡ length (replies unopened (fitting unopened (linesOf (now (input .entry))) (now (out .entry)))) ⌝ }
+// Answers a sheet from the state with no opening, as many of its lines as fit the buffer: all where all its bytes are used.
+pub fn answer_sheet(input: &[u8], out: &mut [u8]) -> Progress
+    ensures progress { λ r. ⌜ r ≡ progressIn (now (input .entry)) unopened (fitting unopened (linesOf (now (input .entry))) (now (out .entry))) ⌝ }
     ensures buffer { λ _. ⌜ now (out .exit) ≡ answersOver unopened (fitting unopened (linesOf (now (input .entry))) (now (out .entry))) (now (out .entry)) ⌝ }
     ensures unchanged { λ _. ⌜ now (input .exit) ≡ now (input .entry) ⌝ }
 {
@@ -157,8 +176,14 @@ pub fn answer_sheet(input: &[u8], out: &mut [u8]) -> usize
     let used = progress.used;
     let written = progress.written;
     if find_newline(input, used) < input.len() {
-        return written;
+        return progress;
     }
     let last = answer_last(supervisor, &input[used..], &mut out[written..]);
-    written + last
+    let after = last.supervisor;
+    Progress {
+        supervisor: after,
+        used: used + last.used,
+        written: written + last.written,
+        lines: progress.lines + last.lines,
+    }
 }

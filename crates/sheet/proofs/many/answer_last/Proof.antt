@@ -1,6 +1,6 @@
 use Prim.Native.Nat.{ℕ, _+_}
 use native.Mathlib.Omega.{arith}
-use mathlib.Core.Path.{_≡_, refl, sym, ap, _∙_}
+use mathlib.Core.Path.{refl, sym, ap, _∙_}
 use mathlib.Core.List.{List, [], _∷_, _++_}
 use lib.ListN.{length}
 use lib.Seq.{length-take-le}
@@ -8,26 +8,36 @@ use borrow.Author.Tests.{leb-true, leb-false}
 use Rattle.columns.specs.Field.{put}
 use Rattle.requests.specs.ByLine.{needOf}
 use Rattle.sheet.specs.Lines.{newline, lastLine}
-use Rattle.sheet.specs.Many.{replyLine, fitting}
+use Rattle.sheet.specs.Many.{afterLine, fitting}
 use Rattle.sheet.proofs.Replies.{reply-room, reply-line, reply-long, over-none, last-none, last-short, last-answer}
 use borrow.Author.Needs.{needs}
 use Rattle.sheet.proofs.many.answer_last.Statement.{statement}
 use Rattle.sheet.proofs.many.answer_last.Tie as tie
 
+none-answered-requires : tie.Need-none-answered-requires
+none-answered-requires c κs = search needs
+
 returns : tie.Need-returns
 returns c =
-    let a = c .before .before .before .args in
-    let o = over-none (a .s) (fitting (a .s) (lastLine (a .input .now)) (a .out .now)) (a .out .now) (last-none (a .s) (a .input .now) (a .out .now) (c .if1 .taken)) in
+    let a = c .before .before .before .before .args in
+    let o =
+    over-none (a .s) (fitting (a .s) (lastLine (a .input .now)) (a .out .now)) (a .input .now) (a .out .now) _ (c .none-answered .ensures)
+    (last-none (a .s) (a .input .now) (a .out .now) (c .before .if1 .taken)) in
     (o .0, (o .1, refl))
 
 lacks-room-requires : tie.Need-lacks-room-requires
 lacks-room-requires c κs = search needs
 
+none-answered-requires-2 : tie.Need-none-answered-requires-2
+none-answered-requires-2 c κs = search needs
+
 returns-2 : tie.Need-returns-2
 returns-2 c =
-    let a = c .before .before .before .before .before .args in
-    let h = leb-true (length (a .out .now)) (needOf (a .input .now)) (sym (c .before .lacks-room .ensures) ∙ c .if2 .taken) in
-    let o = over-none (a .s) (fitting (a .s) (lastLine (a .input .now)) (a .out .now)) (a .out .now) (last-short (a .s) (a .input .now) (a .out .now) h) in
+    let a = c .before .before .before .before .before .before .args in
+    let h = leb-true (length (a .out .now)) (needOf (a .input .now)) (sym (c .before .before .lacks-room .ensures) ∙ c .before .if2 .taken) in
+    let o =
+    over-none (a .s) (fitting (a .s) (lastLine (a .input .now)) (a .out .now)) (a .input .now) (a .out .now) _ (c .none-answered2 .ensures)
+    (last-short (a .s) (a .input .now) (a .out .now) h) in
     (o .0, (o .1, refl))
 
 answer-numbers-requires : tie.Need-answer-numbers-requires
@@ -49,21 +59,27 @@ same-length : tie.Need-same-length
 same-length c = search needs
 
 returns-3 : tie.Need-returns-3
+unfolding afterLine
 returns-3 c =
-    let a = c .before .before .before .before .before .before .before .before .before .before .before .before .args in
-    let h = leb-false (length (a .out .now)) (needOf (a .input .now)) (sym (c .before .before .before .before .before .before .before .before .lacks-room .ensures) ∙ c .before .before .before .before .before .before .before .if2 .left) in
-    let is = c .before .before .before .before .before .answer-numbers .ensures .numbers in
-    let call = c .before .before .write-reply in
-    let o = last-answer (a .s) (a .input .now) (a .out .now) (call .last .1 .0) (c .before .before .before .before .before .before .before .before .before .if1 .left) h (call .ensures .1 ∙ ap (λ (l : List ℕ). put (a .out .now) 0 (l ++ (newline ∷ []))) (reply-line (a .s) (a .input .now) _ is)) in
-    let wide : call .result ≡ length (replyLine (a .s) (a .input .now)) + 1 = omega (arith, call .ensures .0, reply-long (a .s) (a .input .now) _ is) in
-    (wide ∙ o .0, (o .1, refl))
+    let a = c .before .before .before .before .before .before .before .before .before .before .before .before .before .args in
+    let h = leb-false (length (a .out .now)) (needOf (a .input .now)) (sym (c .before .before .before .before .before .before .before .before .before .lacks-room .ensures) ∙ c .before .before .before .before .before .before .before .before .if2 .left) in
+    let replied = c .before .before .before .before .before .before .answer-numbers .ensures in
+    let call = c .before .before .before .write-reply in
+    let o =
+    last-answer (a .s) (a .input .now) (a .out .now) (call .last .1 .0) _ (call .result) (c .before .before .before .before .before .before .before .before .before .before .if1 .left) h
+    (call .ensures .1 ∙ ap (λ (l : List ℕ). put (a .out .now) 0 (l ++ (newline ∷ []))) (reply-line (a .s) (a .input .now) _ (replied .numbers)))
+    (replied .state)
+    (omega (arith, call .ensures .0, reply-long (a .s) (a .input .now) _ (replied .numbers))) in
+    (o .0, (o .1, refl))
 
 pub answer-last-spec : {M : Type 1} → statement M
 answer-last-spec =
     tie.close
     (tie.spec
+    none-answered-requires
     returns
     lacks-room-requires
+    none-answered-requires-2
     returns-2
     answer-numbers-requires
     array-share-prefix-numbers

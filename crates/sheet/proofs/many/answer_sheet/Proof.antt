@@ -1,15 +1,11 @@
-use Prim.Native.Nat.{ℕ, _+_, _-_, _≤_}
+use Prim.Native.Nat.{_-_}
 use native.Mathlib.Omega.{arith}
 use mathlib.Core.Path.{refl, ap, _∙_}
-use mathlib.Core.List.{List}
-use lib.ListN.{length, take, drop}
 use Rattle.falcon_core.specs.declared.supervisor.Supervisor.{Supervisor}
-use Rattle.falcon_core.specs.Supervisor.{unopened}
-use Rattle.sheet.specs.Lines.{whole, lastLine, linesOf}
-use Rattle.sheet.specs.Many.{fitting, replies, progressOf, answersOver}
-use Rattle.sheet.proofs.LinesTurns.{to-end}
-use Rattle.sheet.proofs.Replies.{written-most, progress-written, progress-used}
-use Rattle.sheet.proofs.Sheets.{sheet-full, sheet-more}
+use Rattle.sheet.specs.Lines.{linesOf}
+use Rattle.sheet.specs.Many.{fitting, progressIn, answersOver}
+use Rattle.sheet.proofs.Replies.{progress-written, progress-used}
+use Rattle.sheet.proofs.Sheets.{sheet-full, sheet-more, sums-most}
 use borrow.Author.Needs.{needs}
 use Rattle.sheet.proofs.many.answer_sheet.Statement.{statement}
 use Rattle.sheet.proofs.many.answer_sheet.Tie as tie
@@ -30,41 +26,26 @@ returns : tie.Need-returns
 returns c =
     let a = c .before .before .before .before .before .before .before .before .before .before .args in
     let call = c .before .before .before .before .before .answer-lines in
-    let is = call .ensures .0 ∙ ap (λ (s : Supervisor). progressOf s (fitting s (whole (a .input .now)) (a .out .now))) (c .before .before .before .before .before .before .before .new .ensures) in
-    let buffer = call .ensures .1 .0 ∙ ap (λ (s : Supervisor). answersOver s (fitting s (whole (a .input .now)) (a .out .now)) (a .out .now)) (c .before .before .before .before .before .before .before .new .ensures) in
-    let all = sheet-full unopened (a .input .now) (a .out .now) (call .last .1 .1 .0) (call .result) is buffer (c .before .find-newline .result) (c .before .find-newline .ensures) (c .if1 .taken) in
-    (all .0, (all .1, refl))
+    let all = sheet-full _ (a .input .now) (a .out .now) (call .last .1 .1 .0) (call .result) (call .ensures .0) (call .ensures .1 .0) _ (c .before .find-newline .ensures) (c .if1 .taken) in
+    let new = c .before .before .before .before .before .before .before .new .ensures in (
+      all .0 ∙ ap (λ (s : Supervisor). progressIn (a .input .now) s (fitting s (linesOf (a .input .now)) (a .out .now))) new,
+      (all .1 ∙ ap (λ (s : Supervisor). answersOver s (fitting s (linesOf (a .input .now)) (a .out .now)) (a .out .now)) new, refl),
+    )
 
 sub-answer-last : tie.Need-sub-answer-last
-sub-answer-last c =
-    let a = c .before .before .before .before .before .before .before .before .before .before .args in
-    let call = c .before .before .before .before .before .answer-lines in
-    let is = call .ensures .0 ∙ ap (λ (s : Supervisor). progressOf s (fitting s (whole (a .input .now)) (a .out .now))) (c .before .before .before .before .before .before .before .new .ensures) in
-    progress-used unopened (a .input .now) (a .out .now) (call .result) is
+sub-answer-last c = let call = c .before .before .before .before .before .answer-lines in progress-used _ _ _ (call .result) (call .ensures .0)
 
 part-answer-last-start : tie.Need-part-answer-last-start
-part-answer-last-start c =
-    let a = c .before .before .before .before .before .before .before .before .before .before .args in
-    let call = c .before .before .before .before .before .answer-lines in
-    let is = call .ensures .0 ∙ ap (λ (s : Supervisor). progressOf s (fitting s (whole (a .input .now)) (a .out .now))) (c .before .before .before .before .before .before .before .new .ensures) in
-    progress-used unopened (a .input .now) (a .out .now) (call .result) is
+part-answer-last-start c = let call = c .before .before .before .before .before .answer-lines in progress-used _ _ _ (call .result) (call .ensures .0)
 
 part-answer-last-end : tie.Need-part-answer-last-end
 part-answer-last-end c = search needs
 
 sub-answer-last-2 : tie.Need-sub-answer-last-2
-sub-answer-last-2 c =
-    let a = c .before .before .before .before .before .before .before .before .before .before .before .args in
-    let call = c .before .before .before .before .before .before .answer-lines in
-    let is = call .ensures .0 ∙ ap (λ (s : Supervisor). progressOf s (fitting s (whole (a .input .now)) (a .out .now))) (c .before .before .before .before .before .before .before .before .new .ensures) in
-    omega (arith, call .kept .1 .1 .0, progress-written unopened (a .input .now) (a .out .now) (call .result) is)
+sub-answer-last-2 c = let call = c .before .before .before .before .before .before .answer-lines in omega (arith, call .kept .1 .1 .0, progress-written _ _ _ (call .result) (call .ensures .0))
 
 part-answer-last-start-2 : tie.Need-part-answer-last-start-2
-part-answer-last-start-2 c =
-    let a = c .before .before .before .before .before .before .before .before .before .before .before .args in
-    let call = c .before .before .before .before .before .before .answer-lines in
-    let is = call .ensures .0 ∙ ap (λ (s : Supervisor). progressOf s (fitting s (whole (a .input .now)) (a .out .now))) (c .before .before .before .before .before .before .before .before .new .ensures) in
-    omega (arith, call .kept .1 .1 .0, progress-written unopened (a .input .now) (a .out .now) (call .result) is)
+part-answer-last-start-2 c = let call = c .before .before .before .before .before .before .answer-lines in omega (arith, call .kept .1 .1 .0, progress-written _ _ _ (call .result) (call .ensures .0))
 
 part-answer-last-end-2 : tie.Need-part-answer-last-end-2
 part-answer-last-end-2 c = search needs
@@ -72,48 +53,55 @@ part-answer-last-end-2 c = search needs
 answer-last-requires : tie.Need-answer-last-requires
 answer-last-requires c κs = search needs
 
-add-result : tie.Need-add-result
-add-result c =
-    let a = c .before .before .before .before .before .before .before .before .before .before .before .before .before .before .before .args in
-    let call = c .before .before .before .before .before .before .before .before .before .before .answer-lines in
-    let is = call .ensures .0 ∙ ap (λ (s : Supervisor). progressOf s (fitting s (whole (a .input .now)) (a .out .now))) (c .before .before .before .before .before .before .before .before .before .before .before .before .new .ensures) in
-    let buffer = call .ensures .1 .0 ∙ ap (λ (s : Supervisor). answersOver s (fitting s (whole (a .input .now)) (a .out .now)) (a .out .now)) (c .before .before .before .before .before .before .before .before .before .before .before .before .new .ensures) in
-    let p = call .result in
-    let b = call .last .1 .1 .0 in
-    let last = c .before .before .answer-last in
-    let written =
-    last .ensures .0
-    ∙ ap (λ (t : List ℕ). length (replies (p .supervisor) (fitting (p .supervisor) (lastLine t) (take (length b - p .written) (drop (p .written) b))))) (to-end (a .input .now) (p .used))
-    ∙ ap (λ (t : List ℕ). length (replies (p .supervisor) (fitting (p .supervisor) (lastLine (drop (p .used) (a .input .now))) t))) (to-end b (p .written)) in
-    let placed =
-    last .ensures .1 .0
-    ∙ ap (λ (t : List ℕ). answersOver (p .supervisor) (fitting (p .supervisor) (lastLine t) (take (length b - p .written) (drop (p .written) b))) (take (length b - p .written) (drop (p .written) b))) (to-end (a .input .now) (p .used))
-    ∙ ap (λ (t : List ℕ). answersOver (p .supervisor) (fitting (p .supervisor) (lastLine (drop (p .used) (a .input .now))) t) t) (to-end b (p .written)) in
-    let all = sheet-more unopened (a .input .now) (a .out .now) b p is buffer (c .before .before .before .before .before .before .find-newline .result) (c .before .before .before .before .before .before .find-newline .ensures) (c .before .before .before .before .before .if1 .left) (last .result) (last .last .1 .1 .0) written placed in
-    omega (arith, all .0, written-most unopened (linesOf (a .input .now)) (a .out .now), c .before .before .before .before .before .before .before .before .before .before .before .before .before .before .before .good .1 .0 .0)
+add-t12 : tie.Need-add-t12
+add-t12 c =
+    let b = c .before .before .before .before in
+    let a = b .before .before .before .before .before .before .before .before .before .before .before .before .before .args in
+    let call = b .before .before .before .before .before .before .before .before .answer-lines in
+    let last = b .answer-last in
+    let most =
+    sums-most _ (a .input .now) (a .out .now) (call .last .1 .1 .0) (call .result) (call .ensures .0) (call .ensures .1 .0) _ (b .before .before .before .before .find-newline .ensures) (b .before .before .before .if1 .left)
+    (last .result) (last .last .1 .1 .0) (last .ensures .0) (last .ensures .1 .0) in
+    omega (arith, most .0, b .before .before .before .before .before .before .before .before .before .before .before .before .before .good .0 .0)
+
+add-t13 : tie.Need-add-t13
+add-t13 c =
+    let b = c .before .before .before .before .before in
+    let a = b .before .before .before .before .before .before .before .before .before .before .before .before .before .args in
+    let call = b .before .before .before .before .before .before .before .before .answer-lines in
+    let last = b .answer-last in
+    let most =
+    sums-most _ (a .input .now) (a .out .now) (call .last .1 .1 .0) (call .result) (call .ensures .0) (call .ensures .1 .0) _ (b .before .before .before .before .find-newline .ensures) (b .before .before .before .if1 .left)
+    (last .result) (last .last .1 .1 .0) (last .ensures .0) (last .ensures .1 .0) in
+    omega (arith, most .1 .0, b .before .before .before .before .before .before .before .before .before .before .before .before .before .good .1 .0 .0)
+
+add-t21 : tie.Need-add-t21
+add-t21 c =
+    let b = c .before .before .before .before .before .before .before in
+    let a = b .before .before .before .before .before .before .before .before .before .before .before .before .before .args in
+    let call = b .before .before .before .before .before .before .before .before .answer-lines in
+    let last = b .answer-last in
+    let most =
+    sums-most _ (a .input .now) (a .out .now) (call .last .1 .1 .0) (call .result) (call .ensures .0) (call .ensures .1 .0) _ (b .before .before .before .before .find-newline .ensures) (b .before .before .before .if1 .left)
+    (last .result) (last .last .1 .1 .0) (last .ensures .0) (last .ensures .1 .0) in
+    omega (arith, most .1 .1, b .before .before .before .before .before .before .before .before .before .before .before .before .before .good .0 .0)
 
 same-length-2 : tie.Need-same-length-2
-same-length-2 c = search needs
+same-length-2 c = search (needs, c .before .before .before .before .before .before .before .answer-last .kept, c .before .before .before .before .before .before .before .before .before .before .before .before .before .before .before .answer-lines .kept)
 
 returns-2 : tie.Need-returns-2
 returns-2 c =
-    let a = c .before .before .before .before .before .before .before .before .before .before .before .before .before .before .before .args in
-    let call = c .before .before .before .before .before .before .before .before .before .before .answer-lines in
-    let is = call .ensures .0 ∙ ap (λ (s : Supervisor). progressOf s (fitting s (whole (a .input .now)) (a .out .now))) (c .before .before .before .before .before .before .before .before .before .before .before .before .new .ensures) in
-    let buffer = call .ensures .1 .0 ∙ ap (λ (s : Supervisor). answersOver s (fitting s (whole (a .input .now)) (a .out .now)) (a .out .now)) (c .before .before .before .before .before .before .before .before .before .before .before .before .new .ensures) in
-    let p = call .result in
-    let b = call .last .1 .1 .0 in
-    let last = c .before .before .answer-last in
-    let written =
-    last .ensures .0
-    ∙ ap (λ (t : List ℕ). length (replies (p .supervisor) (fitting (p .supervisor) (lastLine t) (take (length b - p .written) (drop (p .written) b))))) (to-end (a .input .now) (p .used))
-    ∙ ap (λ (t : List ℕ). length (replies (p .supervisor) (fitting (p .supervisor) (lastLine (drop (p .used) (a .input .now))) t))) (to-end b (p .written)) in
-    let placed =
-    last .ensures .1 .0
-    ∙ ap (λ (t : List ℕ). answersOver (p .supervisor) (fitting (p .supervisor) (lastLine t) (take (length b - p .written) (drop (p .written) b))) (take (length b - p .written) (drop (p .written) b))) (to-end (a .input .now) (p .used))
-    ∙ ap (λ (t : List ℕ). answersOver (p .supervisor) (fitting (p .supervisor) (lastLine (drop (p .used) (a .input .now))) t) t) (to-end b (p .written)) in
-    let all = sheet-more unopened (a .input .now) (a .out .now) b p is buffer (c .before .before .before .before .before .before .find-newline .result) (c .before .before .before .before .before .before .find-newline .ensures) (c .before .before .before .before .before .if1 .left) (last .result) (last .last .1 .1 .0) written placed in
-    (all .0, (all .1, refl))
+    let b = c .before .before .before .before .before .before .before in
+    let a = b .before .before .before .before .before .before .before .before .before .before .before .before .before .args in
+    let call = b .before .before .before .before .before .before .before .before .answer-lines in
+    let last = b .answer-last in
+    let all =
+    sheet-more _ (a .input .now) (a .out .now) (call .last .1 .1 .0) (call .result) (call .ensures .0) (call .ensures .1 .0) _ (b .before .before .before .before .find-newline .ensures) (b .before .before .before .if1 .left)
+    (last .result) (last .last .1 .1 .0) (last .ensures .0) (last .ensures .1 .0) in
+    let new = b .before .before .before .before .before .before .before .before .before .before .new .ensures in (
+      all .0 ∙ ap (λ (s : Supervisor). progressIn (a .input .now) s (fitting s (linesOf (a .input .now)) (a .out .now))) new,
+      (all .1 ∙ ap (λ (s : Supervisor). answersOver s (fitting s (linesOf (a .input .now)) (a .out .now)) (a .out .now)) new, refl),
+    )
 
 pub answer-sheet-spec : {M : Type 1} → statement M
 answer-sheet-spec =
@@ -131,6 +119,8 @@ answer-sheet-spec =
     part-answer-last-start-2
     part-answer-last-end-2
     answer-last-requires
-    add-result
+    add-t12
+    add-t13
+    add-t21
     same-length-2
     returns-2)
