@@ -15,8 +15,8 @@ use Rattle.requests.proofs.Buffer.{needs-most}
 use Rattle.sheet.specs.Many.{replyMost, afterLine, replyLine, fittingRoom, fitting, replies, progressOf, answersOver}
 use Rattle.sheet.proofs.LinesAgain.{whole-line, joined-append, whole-most, whole-off, used-most}
 use Rattle.sheet.proofs.LinesCut.{states-append}
-use Rattle.sheet.proofs.LinesFit.{fit-more, fit-none}
-use Rattle.sheet.proofs.Replies.{written-most, fitting-prefix}
+use Rattle.sheet.proofs.LinesFit.{fit-more}
+use Rattle.sheet.proofs.Replies.{last-none, last-one, written-most, fitting-prefix}
 
 take-more : (ls : List (List ℕ)) (k n : ℕ) → take (k + n) ls ≡ take k ls ++ take n (drop k ls)
 take-more ls zero n = ap (λ (m : ℕ). take m ls) (zero-add n)
@@ -137,11 +137,9 @@ module _ (s₀ : Supervisor) (input : List ℕ) where
 
 -- a line fits
 last-fits : (s : Supervisor) (l out : List ℕ) → replyMost ≤ length out → fitting s (lastLine l) out ≡ lastLine l
-unfolding fitting lastLine
-last-fits s [] out h = fit-none afterLine replyLine needOf s (length out)
-last-fits s (b ∷ l) out h =
-    fit-more afterLine replyLine needOf s (b ∷ l) [] (length out) (omega (arith, needs-most (b ∷ l)))
-    ∙ ap (λ (ls : List (List ℕ)). (b ∷ l) ∷ ls) (fit-none afterLine replyLine needOf _ _)
+unfolding lastLine
+last-fits s [] out h = last-none s [] out refl
+last-fits s (b ∷ l) out h = last-one s (b ∷ l) out (λ e. omega arith) (omega (arith, needs-most (b ∷ l)))
 
 last-some : (l : List ℕ) → (length l ≡ 0 → ⊥) → l ∷ [] ≡ lastLine l
 unfolding lastLine

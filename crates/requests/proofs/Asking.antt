@@ -74,15 +74,15 @@ module _ (limit : ℕ) (line a : List ℕ) (same : SameLength line limit × (lim
   unfolding numbersAfter
   array-after b e = e ∙ over-limits limit (limitFields (kindOf line)) line a (same .0)
 
-  reading-is : readWithin limit line ≡ readingLine line
+  reading-same : readWithin limit line ≡ readingLine line
   unfolding readingLine
-  reading-is = within-limits limit (limitFields (kindOf line)) line (same .0)
+  reading-same = within-limits limit (limitFields (kindOf line)) line (same .0)
 
   -- a line that was not read
   pub asked-broken : (r : LineRead) → r ≡ lineAnswer limit line (length a) → ((n : ℕ) → r ≡ Numbers n → ⊥) → refuses notALine ≡ askedLine line
   unfolding askedLine
   asked-broken r e none =
-      ap askedBy (sym (read-not limit line (length a) (omega (arith, same .1)) (λ n k. none n (e ∙ k))) ∙ reading-is)
+      ap askedBy (sym (read-not limit line (length a) (omega (arith, same .1)) (λ n k. none n (e ∙ k))) ∙ reading-same)
 
   -- the numbers of a line that was read
   module _ (r : LineRead) (b : List ℕ) (n : ℕ) (e : r ≡ lineAnswer limit line (length a)) (o : b ≡ numbersOver limit line a) (k : r ≡ Numbers n) where
@@ -94,7 +94,7 @@ module _ (limit : ℕ) (line a : List ℕ) (same : SameLength line limit × (lim
 
     pub asked-read : requestOf (take n b) ≡ askedLine line
     unfolding askedLine
-    asked-read = ap askedBy (sym (taken .is) ∙ reading-is)
+    asked-read = ap askedBy (sym (taken .is) ∙ reading-same)
 
 -- a list among the first numbers of an array is among all of them
 module _ (width n : ℕ) (a : List ℕ) (h : listFields width (take n a) ≤ length (take n a)) where

@@ -156,7 +156,7 @@ unfolding fitting lastLine
 last-short s [] out h = fit-none afterLine replyLine needOf s (length out)
 last-short s (b ∷ input) out h = fit-full afterLine replyLine needOf s (b ∷ input) [] (length out) (omega arith)
 
-last-one : (s : Supervisor) (input out : List ℕ) → (length input ≡ 0 → ⊥) → needOf input < length out → fitting s (lastLine input) out ≡ input ∷ []
+pub last-one : (s : Supervisor) (input out : List ℕ) → (length input ≡ 0 → ⊥) → needOf input < length out → fitting s (lastLine input) out ≡ input ∷ []
 unfolding fitting lastLine
 last-one s [] out q h = absurd (q refl)
 last-one s (b ∷ input) out q h =
