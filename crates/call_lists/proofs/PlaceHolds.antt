@@ -32,11 +32,15 @@ use Rattle.falcon_failsafe.specs.Flight.{openedOf}
 use Rattle.falcon_core.specs.Supervisor.{unopened}
 use Rattle.falcon_failsafe.specs.Failsafe.{tiltedOf, runawayEnough, reportedOf}
 use Rattle.falcon_flight.specs.Tick.{tickOf}
-use Rattle.falcon_core.specs.Calls.{Request, opens, ticks, reports, commands, plans, refusalOf, legsIn, flightAfter, afterOf, outputOf, answerOf, refusedOf, acceptedOf}
+use Rattle.falcon_core.specs.Calls.{Request, opens, ticks, reports, commands, plans, refusalOf, legsIn, flightAfter, totalsAfter, afterOf, outputOf, answerOf, refusedOf, acceptedOf}
 use Rattle.falcon_core.proofs.Parts.{planned-mode, planned-battery, planned-counts, after-config}
 use Rattle.falcon_core.proofs.Invariant.{start-sound, start-untilted}
 use Rattle.falcon_core.proofs.Stages.{tick-battery, report-battery, report-counts, command-battery, command-counts}
 use Rattle.falcon_core.proofs.Runaway.{tick-count, tick-ends, report-ends, command-terminated}
+use Rattle.falcon_totals.specs.declared.DayTotals.{DayTotals}
+use Rattle.falcon_totals.specs.Totals.{countedOf}
+use Rattle.falcon_totals.specs.Counts.{Counted}
+use Rattle.falcon_totals.proofs.Counting.{totalsOf, totals-none, totals-next}
 use Rattle.call_lists.specs.Lists.{Call, Began, Place, nextMode, ticked, placeAfter, nextPlace, placeFrom, start}
 use Rattle.call_lists.specs.Demand3.{tumblingTicks, tumbling}
 use Rattle.call_lists.proofs.CallSeen.{Seen, refused, accepts, seen}
@@ -54,6 +58,7 @@ pub record Holding (p : Place) : Type 0 where
   pub shown-is : p .supervisor .flight .battery .state .critical ≡ p .supervisor .flight .battery .est .critical .latched
   pub count-is : p .supervisor .flight .counts .«runaway_count» ≡ run (p .began)
   pub capped : (run (p .began) + 1 ≤ tumblingTicks) ⊎ ((run (p .began) ≡ tumblingTicks) × (p .supervisor .flight .fsm .mode ≡ Terminated))
+  pub totals-are : p .supervisor .totals ≡ totalsOf (p .counted)
 
 -- ---- a refused call
 
@@ -72,6 +77,7 @@ after-refused p n i =
       shown-is = i .shown-is;
       count-is = i .count-is;
       capped = i .capped;
+      totals-are = i .totals-are;
     }
 
 -- ---- an accepted call: the flight after it, and what it leaves as it is
@@ -81,17 +87,28 @@ pub accepted-mode : (s : Supervisor) (m : Mode) (out : Output) → nextMode m (a
 unfolding acceptedOf answerOf
 accepted-mode s m out = refl
 
+-- an accepted tick, report or command is counted
+counted-on :
+    (p : Place) (ticked : Bool) (n : Mode)
+    → Holding p
+    → countedOf (p .supervisor .totals) ticked (p .supervisor .flight .fsm .mode) n ≡ totalsOf (record { ticked = ticked; began = p .mode; ended = n } ∷ p .counted)
+counted-on p ticked n i =
+    ap (λ (t : DayTotals). countedOf t ticked (p .supervisor .flight .fsm .mode) n) (i .totals-are)
+    ∙ ap (λ (m : Mode). countedOf (totalsOf (p .counted)) ticked m n) (sym (i .mode-is))
+    ∙ totals-next (p .counted) (record { ticked = ticked; began = p .mode; ended = n })
+
 -- a call that keeps the configuration, the battery, the counts and a Terminated mode
 kept :
-    (p : Place) (s : Supervisor)
+    (p : Place) (s : Supervisor) (l : List Counted)
     → Holding p
     → s .opened ≡ p .supervisor .opened
     → s .flight .config ≡ p .supervisor .flight .config
     → s .flight .battery ≡ p .supervisor .flight .battery
     → s .flight .counts ≡ p .supervisor .flight .counts
     → (p .supervisor .flight .fsm .mode ≡ Terminated → s .flight .fsm .mode ≡ Terminated)
-    → Holding (record { supervisor = s; mode = s .flight .fsm .mode; config = p .config; battery = p .battery; began = p .began })
-kept p s i o g e c k =
+    → s .totals ≡ totalsOf l
+    → Holding (record { supervisor = s; mode = s .flight .fsm .mode; config = p .config; battery = p .battery; began = p .began; counted = l })
+kept p s l i o g e c k t =
     record {
       mode-is = refl;
       config-is = rw (o, g) (i .config-is);
@@ -99,6 +116,7 @@ kept p s i o g e c k =
       shown-is = rw e (i .shown-is);
       count-is = ap (λ (n : Counts). n .«runaway_count») c ∙ i .count-is;
       capped = ⊎-elim inl (λ u. inr (u .0, k (u .1))) (i .capped);
+      totals-are = t;
     }
 
 -- ---- a tick
@@ -185,7 +203,7 @@ module _ (p : Place) (t : Tick) (i : Holding p) where
       (i .capped)
 
   after-tick : Holding (placeAfter p (acceptedOf (afterOf (p .supervisor) (ticks t)) (outputOf flight (legsIn (p .supervisor)) (ticks t))) (some (ticks t)))
-  unfolding placeAfter acceptedOf answerOf afterOf flightAfter
+  unfolding placeAfter acceptedOf answerOf afterOf flightAfter totalsAfter
   after-tick =
       record {
         mode-is = refl;
@@ -195,6 +213,7 @@ module _ (p : Place) (t : Tick) (i : Holding p) where
         shown-is = rw (tick-battery flight (legsIn (p .supervisor)) t) (critical-shown (flight .battery) (t .dt) (t .reading) (i .shown-is));
         count-is = tick-run;
         capped = tick-capped air refl;
+        totals-are = counted-on p true (ticked-flight .fsm .mode) i;
       }
 
 -- ---- every call
@@ -209,21 +228,24 @@ after-accepted :
     → refusalOf (p .supervisor) r ≡ 0
     → Holding p
     → Holding (placeAfter p (acceptedOf (afterOf (p .supervisor) r) (outputOf (p .supervisor .flight) (legsIn (p .supervisor)) r)) (some r))
-unfolding placeAfter acceptedOf answerOf afterOf flightAfter run
+unfolding placeAfter acceptedOf answerOf afterOf flightAfter totalsAfter run
 after-accepted p (opens o) e i =
     let k = start-sound (p .supervisor) o e in
-    record { mode-is = refl; config-is = refl; battery-is = refl; shown-is = k .battery .critical-shown; count-is = start-untilted o; capped = inl (omega arith) }
+    record { mode-is = refl; config-is = refl; battery-is = refl; shown-is = k .battery .critical-shown; count-is = start-untilted o; capped = inl (omega arith); totals-are = totals-none }
 after-accepted p (ticks t) e i = after-tick p t i
 after-accepted p (reports failed) e i =
-    kept p _ i refl (after-config (p .supervisor) (reports failed) refl) (report-battery (p .supervisor .flight) failed) (report-counts (p .supervisor .flight) failed)
+    kept p _ _ i refl (after-config (p .supervisor) (reports failed) refl) (report-battery (p .supervisor .flight) failed) (report-counts (p .supervisor .flight) failed)
     (report-terminated (p .supervisor .flight) failed)
+    (counted-on p false _ i)
 after-accepted p (commands ev level low) e i =
-    kept p _ i refl (after-config (p .supervisor) (commands ev level low) refl) (command-battery (p .supervisor .flight) ev level low)
+    kept p _ _ i refl (after-config (p .supervisor) (commands ev level low) refl) (command-battery (p .supervisor .flight) ev level low)
     (command-counts (p .supervisor .flight) ev level low)
     (command-terminated (p .supervisor .flight) level low ev)
+    (counted-on p false _ i)
 after-accepted p (plans x) e i =
-    kept p _ i refl (after-config (p .supervisor) (plans x) refl) (planned-battery (p .supervisor .flight) x) (planned-counts (p .supervisor .flight) x)
+    kept p _ _ i refl (after-config (p .supervisor) (plans x) refl) (planned-battery (p .supervisor .flight) x) (planned-counts (p .supervisor .flight) x)
     (λ m. planned-mode (p .supervisor .flight) x ∙ m)
+    (i .totals-are)
 
 after-seen : (p : Place) (a : Answered) (k : Option Request) → Seen (p .supervisor) a k → Holding p → Holding (placeAfter p a k)
 after-seen p _ _ (refused n) i = after-refused p n i
@@ -241,4 +263,4 @@ place-holding p (c ∷ l) i = place-holding (nextPlace p c) l (next-holding p c 
 pub start-holding : Holding start
 unfolding start unopened openedOf run
 start-holding =
-    record { mode-is = refl; config-is = refl; battery-is = refl; shown-is = opened-shown (forOpeningVoltsOf zerof); count-is = refl; capped = inl (omega arith) }
+    record { mode-is = refl; config-is = refl; battery-is = refl; shown-is = opened-shown (forOpeningVoltsOf zerof); count-is = refl; capped = inl (omega arith); totals-are = totals-none }

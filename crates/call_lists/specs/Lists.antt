@@ -10,6 +10,7 @@ use Rattle.relay_batt.specs.declared.battery.Battery.{Battery}
 use Rattle.relay_batt.specs.Battery.{updateOf}
 use Rattle.falcon_guidance.specs.declared.state.Config.{Config}
 use Rattle.falcon_guidance.specs.declared.state.Tick.{Tick}
+use Rattle.falcon_totals.specs.Counts.{Counted}
 use Rattle.falcon_core.specs.declared.supervisor.Supervisor.{Supervisor}
 use Rattle.falcon_core.specs.declared.calls.Answered.{Answered}
 use Rattle.falcon_core.specs.Supervisor.{unopened}
@@ -51,13 +52,15 @@ pub record Began : Type 0 where
   pub mode : Mode
   pub tick : Tick
 
--- a place: the state there, the mode there, and since the latest accepted opening its configuration, the battery, and the accepted ticks, the latest first
+-- a place: the state there, the mode there, and since the latest accepted opening its configuration, the battery, the accepted ticks, and the accepted
+-- ticks, reports and commands, the latest first
 pub record Place : Type 0 where
   pub supervisor : Supervisor
   pub mode : Mode
   pub config : Option Config
   pub battery : Option Battery
   pub began : List Began
+  pub counted : List Counted
 
 -- "The mode there is the one that the latest accepted call answered, 0 before any."
 abbrev pub nextMode : Mode → Answered → Mode
@@ -95,6 +98,15 @@ nextBegan m l (some (reports failed)) = l
 nextBegan m l (some (commands ev level low)) = l
 nextBegan m l (some (plans p)) = l
 
+-- U1: accepted ticks, reports and commands "since the opening", each with the mode that it began in and the one that it ended in
+abbrev pub nextCounted : Mode → Mode → List Counted → Option Request → List Counted
+nextCounted m n l none = l
+nextCounted m n l (some (opens o)) = []
+nextCounted m n l (some (ticks t)) = record { ticked = true; began = m; ended = n } ∷ l
+nextCounted m n l (some (reports failed)) = record { ticked = false; began = m; ended = n } ∷ l
+nextCounted m n l (some (commands ev level low)) = record { ticked = false; began = m; ended = n } ∷ l
+nextCounted m n l (some (plans p)) = l
+
 -- the place after a call with this answer, which accepted this request, if any
 unfoldable pub placeAfter : Place → Answered → Option Request → Place
 placeAfter p a r =
@@ -104,6 +116,7 @@ placeAfter p a r =
       config = nextConfig (p .config) r;
       battery = nextBattery (p .battery) r;
       began = nextBegan (p .mode) (p .began) r;
+      counted = nextCounted (p .mode) (nextMode (p .mode) a) (p .counted) r;
     }
 
 -- "each further one the state that the call before it returned, after a refusal too"
@@ -122,7 +135,7 @@ answersFrom p (c ∷ l) = callStep (p .supervisor) c ∷ answersFrom (nextPlace 
 
 -- "The first call gets the state with no opening": the place before the first call
 unfoldable pub start : Place
-start = record { supervisor = unopened; mode = Disarmed; config = none; battery = none; began = [] }
+start = record { supervisor = unopened; mode = Disarmed; config = none; battery = none; began = []; counted = [] }
 
 -- the place after these calls
 abbrev pub placeAt : List Call → Place

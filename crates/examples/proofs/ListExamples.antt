@@ -11,7 +11,7 @@ use Rattle.relay_fsm.specs.Mode.{modeNumber}
 use Rattle.relay_batt.specs.declared.battery.Reading.{Reading}
 use Rattle.relay_batt.specs.declared.battery.Reading.the-variants.{Nothing, Volts}
 use Rattle.falcon_guidance.specs.State.{pointOf, origin, zerof}
-use Rattle.falcon_core.specs.Calls.{opens, ticks, reports, commands, plans, points}
+use Rattle.falcon_core.specs.Calls.{opens, ticks, reports, commands, plans, points, totals}
 use lib.Ieee.{add, sub, mul, div, neg, lt, eq, le, ne, ofInt, round, units, isNan, size, toBits}
 use Rattle.relay_math.specs.Root.{rootBy, wholeRoot, radicand, dropped, rounded, ranged, rootOf}
 use Rattle.relay_math.specs.Small.{maxOf, clampOf}
@@ -25,7 +25,7 @@ use Rattle.relay_batt.specs.Config.{defaultOf, forOpeningVoltsOf, capacityOf, c
 use Rattle.relay_batt.specs.Curve.{sanitizeOf, knots, walk, tableOf, ocvSocCellOf}
 use Rattle.relay_batt.specs.Estimator.{noneOf, shownOf, newOf, resetOf, consumedOf, bigStepOf, blendOf, rEstOf, restOf, socCoulombOf, socOf, withAmpsOf, voltsOnlyOf, updateAmpsOf, updateVoltsOf}
 use Rattle.relay_batt.specs.Latch.{tripOf}
-use Rattle.falcon_core.specs.Calls.{shapeRefusal, sequenceRefusal, stateRefusal, refusalOf, commandedBy, startOf, startPoints, plannedOf, flightAfter, waypointsAfter, afterOf, outputOf, answerOf, refusedOf, acceptedOf, stepOf, numbersOf}
+use Rattle.falcon_core.specs.Calls.{shapeRefusal, sequenceRefusal, stateRefusal, refusalOf, commandedBy, startOf, startPoints, plannedOf, flightAfter, waypointsAfter, totalsAfter, afterOf, outputOf, answerOf, refusedOf, acceptedOf, stepOf, numbersOf}
 use Rattle.falcon_failsafe.specs.Failsafe.{clearedOf, breachOf, breachGives, breachedOf, tiltedOf, runawayEnough, runawayCounted, runawayGives, runawayOf, gustyOf, windEnough, windCounted, windGives, windOf, reportedOf}
 use Rattle.falcon_guidance.specs.Geometry.{lengthOf, distanceOf, heightOf}
 use Rattle.falcon_hold.specs.Hold.{horizSpeedOf, brakePointOf, enteredOf, restOf as holdRestOf, brakedOf, leftOf, keptOf, heldOf}
@@ -40,7 +40,9 @@ use Rattle.falcon_guidance.specs.Zones.{goalOf, bearingOf, alongOf, perpOf, obs
 use Rattle.requests.specs.ByLine.{needFields, needOf, extraOf, replyNumbers, askedWith, lineStep, replyOf, bufferAfter}
 use Rattle.requests.specs.Parse.{limitFields, readingLine, askedLine}
 use Rattle.columns.specs.Field.{inRange, digits, start as fieldStart, spaced, readField, kindOf, column, columns, fieldOf, put}
-use Rattle.requests.specs.Kinds.{openingFrom, openingLine, readingFrom, batteryOk, tickFrom, tickOk, tickLine, reportLine, commandLine, pointsLine, zonesLine, requestOf}
+use Rattle.requests.specs.Kinds.{openingFrom, openingLine, readingFrom, batteryOk, tickFrom, tickOk, tickLine, reportLine, commandLine, pointsLine, zonesLine, totalsLine, requestOf}
+use Rattle.falcon_totals.specs.Totals.{noTotals, countedOf, totalsNumbers}
+use Rattle.falcon_totals.specs.Counts.{countOf, countsOf}
 use Rattle.columns.specs.Line.{onto, before, fields, lengthOk, readWithin, lineOf}
 use Rattle.call_lists.specs.Lists.{callStep, acceptedRequest, placeAfter, nextPlace, placeFrom, answersFrom, start, calmFrom, ticksFrom}
 use Rattle.call_lists.specs.Lists.{Call, byValues, byLine, Place, latchOf}
@@ -130,6 +132,45 @@ answered =
     ∷ (0 ∷ 2 ∷ 0 ∷ 0 ∷ 1 ∷ 0 ∷ 0 ∷ 3240099840 ∷ 0 ∷ 21 ∷ [])
     ∷ []
 
+-- a line of kind 7, with a buffer of so many bytes
+kind7 : ℕ → Call
+kind7 room = byLine (lineOf (7 ∷ [])) (replicate room 0)
+
+-- a breach at home: opened with fence -1, armed and taking off; the tick goes from Takeoff by Rtl to Land, a second one is refused, and its report follows
+breached : List Call
+breached =
+    line (1 ∷ 0 ∷ 0 ∷ 0 ∷ 3212836864 ∷ 1092616192 ∷ 1096810496 ∷ 0 ∷ 0 ∷ 0 ∷ [])
+    ∷ line (4 ∷ 0 ∷ 1 ∷ 1 ∷ [])
+    ∷ line (4 ∷ 1 ∷ 1 ∷ 1 ∷ [])
+    ∷ line (2 ∷ replicate 17 0)
+    ∷ line (2 ∷ replicate 17 0)
+    ∷ quiet
+    ∷ []
+
+-- the totals asked for: by line with 208 and with 209 bytes, by values, after an opening that is refused, and after one that is not
+asked : List Call
+asked =
+    kind7 208
+    ∷ kind7 209
+    ∷ byValues (plans totals)
+    ∷ line (1 ∷ 0 ∷ 0 ∷ 0 ∷ 0 ∷ 0 ∷ 0 ∷ 2097152 ∷ 0 ∷ 0 ∷ [])
+    ∷ kind7 209
+    ∷ opening
+    ∷ kind7 209
+    ∷ []
+
+-- the numbers answered
+totalled : List (List ℕ)
+totalled =
+    (9 ∷ 5 ∷ 0 ∷ 0 ∷ 0 ∷ 0 ∷ 0 ∷ 0 ∷ 0 ∷ 21 ∷ [])
+    ∷ (0 ∷ 5 ∷ 0 ∷ 0 ∷ 0 ∷ 0 ∷ 0 ∷ 0 ∷ 0 ∷ 21 ∷ 0 ∷ 0 ∷ 0 ∷ 0 ∷ 0 ∷ 1 ∷ 0 ∷ 0 ∷ 3 ∷ [])
+    ∷ (0 ∷ 5 ∷ 0 ∷ 0 ∷ 0 ∷ 0 ∷ 0 ∷ 0 ∷ 0 ∷ 21 ∷ 0 ∷ 0 ∷ 0 ∷ 0 ∷ 0 ∷ 1 ∷ 0 ∷ 0 ∷ 3 ∷ [])
+    ∷ (5 ∷ 5 ∷ 0 ∷ 0 ∷ 0 ∷ 0 ∷ 0 ∷ 0 ∷ 0 ∷ 21 ∷ [])
+    ∷ (0 ∷ 5 ∷ 0 ∷ 0 ∷ 0 ∷ 0 ∷ 0 ∷ 0 ∷ 0 ∷ 21 ∷ 0 ∷ 0 ∷ 0 ∷ 0 ∷ 0 ∷ 1 ∷ 0 ∷ 0 ∷ 3 ∷ [])
+    ∷ (0 ∷ 0 ∷ 0 ∷ 0 ∷ 0 ∷ 0 ∷ 0 ∷ 0 ∷ 0 ∷ 21 ∷ [])
+    ∷ (0 ∷ 0 ∷ 0 ∷ 0 ∷ 0 ∷ 0 ∷ 0 ∷ 0 ∷ 0 ∷ 21 ∷ 0 ∷ 0 ∷ 0 ∷ 0 ∷ 0 ∷ 0 ∷ 0 ∷ 0 ∷ 0 ∷ [])
+    ∷ []
+
 -- the modes after each call
 modes : Place → List Call → List ℕ
 modes p [] = []
@@ -151,7 +192,8 @@ final m [] = m
 final m (n ∷ l) = final n l
 
 -- document 01's worked example, by line; two ticks and not one: the latch is set before takeoff, the first tick after it leads to Rtl and the second to Land;
--- the critical battery is seen to Rtl and then to Land, with the latch set from the second flat tick on; 49 tilted ticks fly on in Takeoff, 50 end in Terminated
+-- the critical battery is seen to Rtl and then to Land, with the latch set from the second flat tick on; 49 tilted ticks fly on in Takeoff, 50 end in Terminated;
+-- a breach at home has three changes and one tick, which ended in Land
 seen-in-lists :
     (map replyOf (answersFrom start worked) ≡ map lineOf answered)
     × (modes start (tripped ++ (calmly ∷ quiet ∷ calmly ∷ [])) ≡ 0 ∷ 0 ∷ 0 ∷ 1 ∷ 2 ∷ 6 ∷ 6 ∷ 5 ∷ [])
@@ -160,5 +202,7 @@ seen-in-lists :
     × (latches start (flying ++ (flat ∷ quiet ∷ flat ∷ [])) ≡ false ∷ false ∷ false ∷ false ∷ false ∷ false ∷ false ∷ true ∷ [])
     × (final 0 (modes start (flying ++ tumble 49)) ≡ 2)
     × (final 0 (modes start (flying ++ tumble 50)) ≡ 7)
-unfolding opening tick flat calmly tripped tilted quiet flying line worked answered answersFrom modes latches tumble final rootBy wholeRoot radicand dropped rounded ranged rootOf maxOf clampOf eventAt rowOf onOf allChecks bitOf withBitOf setOf legacyPassedOf failsOf failingMaskOf outstandingOf firstIn firstBlockerOf openedOf heardOf updateOf lostOf runOf defaultOf forOpeningVoltsOf capacityOf cellsOf sanitizeOf knots walk tableOf ocvSocCellOf noneOf shownOf newOf resetOf consumedOf bigStepOf blendOf rEstOf restOf socCoulombOf socOf withAmpsOf voltsOnlyOf updateAmpsOf updateVoltsOf tripOf shapeRefusal sequenceRefusal stateRefusal refusalOf commandedBy startOf startPoints plannedOf flightAfter waypointsAfter afterOf outputOf answerOf refusedOf acceptedOf stepOf numbersOf clearedOf breachOf breachGives breachedOf tiltedOf runawayEnough runawayCounted runawayGives runawayOf gustyOf windEnough windCounted windGives windOf reportedOf lengthOf distanceOf horizSpeedOf brakePointOf enteredOf holdRestOf brakedOf leftOf keptOf heldOf heightOf highOf nearHomeOf nearGroundOf distance3Of arrivedOf milestoneGives legOf advancedOf milestoneOf waypointAdmissibleOf pointAtOf triedOf allAdmissibleOf storedOf loadedOf loadedPointsOf waypointAtOf legWaypointOf currentWaypointOf legsOf outsideGeofenceOf geofenceSaneOf navRowsOf integrityRowsOf readinessRowsOf updatePreflightOf escTelemetryOf landingOf setpointOf commandedOf stateOpenedOf unopened checkedOf poweredOf telemetryOf sensedOf afterBreach afterRunaway afterWind afterMilestone holdingOf answeredOf endedOf tickOf givenOf goalOf bearingOf alongOf perpOf obstructsOf threatensOf tangentOf urgencyOf ringOf deflectedOf aroundOf aroundAllOf avoidOf zoneAtOf zonesKeptOf storedZonesOf loadedZonesOf askedLine askedWith lineStep replyOf bufferAfter inRange digits fieldStart spaced readField column columns fieldOf put openingFrom openingLine readingFrom batteryOk tickFrom tickOk tickLine reportLine commandLine pointsLine zonesLine requestOf onto before fields lengthOk readWithin lineOf callStep acceptedRequest placeAfter nextPlace placeFrom start calmFrom ticksFrom add sub mul div neg lt eq le ne ofBits ofInt round units isNan size toBits kindOf needFields needOf extraOf replyNumbers limitFields readingLine ones
-seen-in-lists = (refl, refl, refl, refl, refl, refl, refl)
+    × (map replyNumbers (answersFrom (placeFrom start breached) asked) ≡ totalled)
+    × (countsOf (placeFrom start breached .counted) ≡ 0 ∷ 0 ∷ 0 ∷ 0 ∷ 0 ∷ 1 ∷ 0 ∷ 0 ∷ 3 ∷ [])
+unfolding kind7 breached asked totalled noTotals countedOf totalsNumbers countOf countsOf totalsAfter totalsLine opening tick flat calmly tripped tilted quiet flying line worked answered answersFrom modes latches tumble final rootBy wholeRoot radicand dropped rounded ranged rootOf maxOf clampOf eventAt rowOf onOf allChecks bitOf withBitOf setOf legacyPassedOf failsOf failingMaskOf outstandingOf firstIn firstBlockerOf openedOf heardOf updateOf lostOf runOf defaultOf forOpeningVoltsOf capacityOf cellsOf sanitizeOf knots walk tableOf ocvSocCellOf noneOf shownOf newOf resetOf consumedOf bigStepOf blendOf rEstOf restOf socCoulombOf socOf withAmpsOf voltsOnlyOf updateAmpsOf updateVoltsOf tripOf shapeRefusal sequenceRefusal stateRefusal refusalOf commandedBy startOf startPoints plannedOf flightAfter waypointsAfter afterOf outputOf answerOf refusedOf acceptedOf stepOf numbersOf clearedOf breachOf breachGives breachedOf tiltedOf runawayEnough runawayCounted runawayGives runawayOf gustyOf windEnough windCounted windGives windOf reportedOf lengthOf distanceOf horizSpeedOf brakePointOf enteredOf holdRestOf brakedOf leftOf keptOf heldOf heightOf highOf nearHomeOf nearGroundOf distance3Of arrivedOf milestoneGives legOf advancedOf milestoneOf waypointAdmissibleOf pointAtOf triedOf allAdmissibleOf storedOf loadedOf loadedPointsOf waypointAtOf legWaypointOf currentWaypointOf legsOf outsideGeofenceOf geofenceSaneOf navRowsOf integrityRowsOf readinessRowsOf updatePreflightOf escTelemetryOf landingOf setpointOf commandedOf stateOpenedOf unopened checkedOf poweredOf telemetryOf sensedOf afterBreach afterRunaway afterWind afterMilestone holdingOf answeredOf endedOf tickOf givenOf goalOf bearingOf alongOf perpOf obstructsOf threatensOf tangentOf urgencyOf ringOf deflectedOf aroundOf aroundAllOf avoidOf zoneAtOf zonesKeptOf storedZonesOf loadedZonesOf askedLine askedWith lineStep replyOf bufferAfter inRange digits fieldStart spaced readField column columns fieldOf put openingFrom openingLine readingFrom batteryOk tickFrom tickOk tickLine reportLine commandLine pointsLine zonesLine requestOf onto before fields lengthOk readWithin lineOf callStep acceptedRequest placeAfter nextPlace placeFrom start calmFrom ticksFrom add sub mul div neg lt eq le ne ofBits ofInt round units isNan size toBits kindOf needFields needOf extraOf replyNumbers limitFields readingLine ones
+seen-in-lists = (refl, refl, refl, refl, refl, refl, refl, refl, refl)

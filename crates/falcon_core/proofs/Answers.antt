@@ -10,7 +10,7 @@ use lib.ListN.{length}
 use lib.Ieee.{Float}
 use Rattle.falcon_guidance.specs.declared.state.Point.{Point}
 use Rattle.falcon_core.specs.declared.supervisor.Supervisor.{Supervisor}
-use Rattle.falcon_core.specs.declared.calls.Output.the-variants.{Nothing}
+use Rattle.falcon_core.specs.declared.calls.Output.the-variants.{Nothing, Totals}
 use Rattle.falcon_failsafe.specs.Flight.{withZones}
 use Rattle.falcon_guidance.specs.State.{pointNumbers, zoneNumbers}
 use Rattle.falcon_guidance.specs.Mission.{noPoints, triedOf, allAdmissibleOf}
@@ -19,9 +19,11 @@ use Rattle.falcon_guidance.specs.Zones.{loadedZonesOf}
 use Rattle.falcon_failsafe.specs.declared.flight.FlightSupervisor.{FlightSupervisor}
 use Rattle.falcon_failsafe.specs.declared.flight.Opening.{Opening}
 use Rattle.falcon_failsafe.specs.Flight.{openedOf}
-use Rattle.falcon_core.specs.Calls.{Request, opens, plans, points, zones, miscounted, masksTooLarge, isOpening, isReport}
+use Rattle.falcon_totals.specs.declared.DayTotals.{DayTotals}
+use Rattle.falcon_totals.specs.Totals.{noTotals}
+use Rattle.falcon_core.specs.Calls.{Request, opens, plans, points, zones, totals, miscounted, masksTooLarge, isOpening, isReport}
 use Rattle.falcon_core.specs.Refusals.{wrongCount, outOfRange, inadmissible}
-use Rattle.falcon_core.specs.Calls.{shapeRefusal, sequenceRefusal, stateRefusal, refusalOf, legsIn, startOf, startPoints, plannedOf, flightAfter, waypointsAfter, outputOf, afterOf, refusedOf, acceptedOf, stepOf, withFlight, withPoints}
+use Rattle.falcon_core.specs.Calls.{shapeRefusal, sequenceRefusal, stateRefusal, refusalOf, legsIn, startOf, startPoints, plannedOf, flightAfter, waypointsAfter, outputOf, totalsAfter, afterOf, refusedOf, acceptedOf, stepOf, withFlight, withPoints}
 
 -- a refusal that fits is answered and keeps the state
 pub step-refused : (s : Supervisor) (r : Request) (n : ℕ) → refusalOf s r ≡ suc n → stepOf s r ≡ refusedOf s (suc n)
@@ -98,13 +100,14 @@ module _ (s : Supervisor) where
 
   -- an accepted opening, from what its parts are
   pub opening-accepted :
-      (o : Opening) (f : FlightSupervisor) (ps : List Point) →
+      (o : Opening) (f : FlightSupervisor) (ps : List Point) (t : DayTotals) →
       f ≡ openedOf o →
       ps ≡ noPoints →
+      t ≡ noTotals →
       masksTooLarge (opens o) ≡ false →
-      acceptedOf (record { flight = f; waypoints = ps; opened = true; «report_due» = false }) Nothing ≡ stepOf s (opens o)
-  unfolding refusalOf shapeRefusal stateRefusal afterOf flightAfter waypointsAfter startOf startPoints outputOf
-  opening-accepted o f ps e q m = let h : refusalOf s (opens o) ≡ 0 = rw m in rw (step-accepted s (opens o) h, e, q)
+      acceptedOf (record { flight = f; waypoints = ps; opened = true; «report_due» = false; totals = t }) Nothing ≡ stepOf s (opens o)
+  unfolding refusalOf shapeRefusal stateRefusal afterOf flightAfter waypointsAfter startOf startPoints outputOf totalsAfter
+  opening-accepted o f ps t e q z m = let h : refusalOf s (opens o) ≡ 0 = rw m in rw (step-accepted s (opens o) h, e, q, z)
 
 -- a call in sequence finds an opening, and no report due where it is none
 pub in-sequence : (opened due : Bool) → sequenceRefusal opened due false ≡ 0 → (opened ≡ true) × (due ≡ false)
@@ -122,7 +125,7 @@ pub points-accepted :
     sequenceRefusal (s .opened) (s .«report_due») false ≡ 0 →
     not ok ≡ false →
     acceptedOf next Nothing ≡ stepOf s (plans (points l))
-unfolding refusalOf stateRefusal afterOf flightAfter waypointsAfter plannedOf outputOf
+unfolding refusalOf stateRefusal afterOf flightAfter waypointsAfter plannedOf outputOf totalsAfter
 points-accepted s next l ok e eo c q b =
     let a : allAdmissibleOf (s .flight .config) l (triedOf l) ≡ true = sym eo ∙ not-false ok b in
     let h : refusalOf s (plans (points l)) ≡ 0 = rw (points-shape l c, q, a) in
@@ -136,8 +139,29 @@ pub zones-accepted :
     length l % zoneNumbers ≡ 0 →
     sequenceRefusal (s .opened) (s .«report_due») false ≡ 0 →
     acceptedOf (withFlight s (withZones (s .flight) z) (s .waypoints) (s .«report_due»)) Nothing ≡ stepOf s (plans (zones l))
-unfolding refusalOf stateRefusal afterOf flightAfter waypointsAfter plannedOf outputOf
+unfolding refusalOf stateRefusal afterOf flightAfter waypointsAfter plannedOf outputOf totalsAfter
 zones-accepted s l z ez c q =
     let h : refusalOf s (plans (zones l)) ≡ 0 = rw (zones-shape l c, q) in
     let d = in-sequence (s .opened) (s .«report_due») q .1 in
     rw (step-accepted s (plans (zones l)) h, ez, d)
+
+-- the totals
+module _ (s : Supervisor) where
+  pub totals-unsequenced :
+      (n : ℕ) →
+      n ≡ sequenceRefusal (s .opened) (s .«report_due») false →
+      (n ≡ 0 → ⊥) →
+      refusedOf s n ≡ stepOf s (plans totals)
+  unfolding shapeRefusal
+  totals-unsequenced n = sequence-refused s (plans totals) n refl refl
+
+  -- an accepted call for them keeps the state
+  pub totals-after : sequenceRefusal (s .opened) (s .«report_due») false ≡ 0 → afterOf s (plans totals) ≡ s
+  unfolding afterOf flightAfter waypointsAfter plannedOf outputOf totalsAfter
+  totals-after q = rw (in-sequence (s .opened) (s .«report_due») q .1)
+
+  pub totals-accepted : sequenceRefusal (s .opened) (s .«report_due») false ≡ 0 → acceptedOf s Totals ≡ stepOf s (plans totals)
+  unfolding refusalOf shapeRefusal stateRefusal outputOf
+  totals-accepted q =
+      let h : refusalOf s (plans totals) ≡ 0 = rw q in
+      sym (step-accepted s (plans totals) h ∙ ap (λ (u : Supervisor). acceptedOf u Totals) (totals-after q))

@@ -15,7 +15,7 @@ use Rattle.falcon_flight.specs.declared.tick.TickAnswer.the-variants.{MotorsOff
 use Rattle.falcon_core.specs.Supervisor.{unopened}
 use Rattle.falcon_flight.specs.Setpoint.{motorsOffOf}
 use Rattle.falcon_flight.specs.Tick.{afterMilestone, holdingOf, endedOf, tickOf}
-use Rattle.falcon_core.specs.Calls.{Request, opens, ticks, reports, commands, plans, dueAfter, reportDueAfter, refusalOf, legsIn, flightAfter, afterOf, outputOf, answerOf, acceptedOf, stepOf}
+use Rattle.falcon_core.specs.Calls.{Request, Planning, opens, ticks, reports, commands, plans, points, zones, totals, dueAfter, planOutput, reportDueAfter, refusalOf, legsIn, flightAfter, afterOf, outputOf, answerOf, acceptedOf, stepOf}
 use Rattle.falcon_core.proofs.Answers.{step-accepted}
 use Rattle.falcon_core.proofs.Parts.{answered-due, tick-flight}
 
@@ -45,13 +45,19 @@ due-if-on : (a : TickAnswer) → (a ≡ MotorsOff → ⊥) → dueAfter a ≡ tr
 due-if-on MotorsOff h = absurd (h refl)
 due-if-on (Setpoint ned landing rearm) h = refl
 
+-- none after what the planner asks
+plan-none-due : (p : Planning) → reportDueAfter (planOutput p) ≡ false
+plan-none-due (points l) = refl
+plan-none-due (zones l) = refl
+plan-none-due totals = refl
+
 due-flying : (s : Supervisor) (r : Request) → reportDueAfter (outputOf (s .flight) (legsIn s) r) ≡ true → FlyingTick s r
 unfolding outputOf
 due-flying s (opens o) d = absurd (clash refl d)
 due-flying s (ticks t) d = record { tick = t; asks = refl; flies = motors-on (tickOf (s .flight) (legsIn s) t .answer) d }
 due-flying s (reports failed) d = absurd (clash refl d)
 due-flying s (commands ev level low) d = absurd (clash refl d)
-due-flying s (plans p) d = absurd (clash refl d)
+due-flying s (plans p) d = absurd (clash (plan-none-due p) d)
 
 flying-due : (s : Supervisor) (r : Request) → FlyingTick s r → reportDueAfter (outputOf (s .flight) (legsIn s) r) ≡ true
 unfolding outputOf
@@ -95,7 +101,7 @@ after-due-airborne s (opens o) k e d = absurd (clash refl d)
 after-due-airborne s (ticks t) k e d = subst T (sym (sym (tick-due (s .flight) (legsIn s) t) ∙ d)) tt
 after-due-airborne s (reports failed) k e d = absurd (clash refl d)
 after-due-airborne s (commands ev level low) k e d = absurd (clash refl d)
-after-due-airborne s (plans p) k e d = absurd (clash refl d)
+after-due-airborne s (plans p) k e d = absurd (clash (plan-none-due p) d)
 
 -- the state with no opening
 pub due-unopened : DueAirborne unopened

@@ -27,7 +27,7 @@ use Rattle.falcon_failsafe.specs.Failsafe.{clearedOf, breachedOf, runawayOf, wi
 use Rattle.falcon_flight.specs.Milestone.{milestoneOf}
 use Rattle.falcon_hold.specs.Hold.{holdsOf, holdRestMs, holdRestS, holdBrakeMaxS, horizSpeedOf, brakePointOf, enteredOf, restOf, brakedOf, leftOf, keptOf, heldOf}
 use Rattle.falcon_flight.specs.Tick.{checkedOf, poweredOf, telemetryOf, sensedOf, afterBreach, afterRunaway, afterWind, afterMilestone, holdingOf, tickOf}
-use Rattle.falcon_core.specs.Calls.{Request, Planning, opens, ticks, reports, commands, plans, points, zones, commandedBy, legsIn, startOf, startPoints, pointsAfter, plannedOf, flightAfter, waypointsAfter, afterOf, stepOf}
+use Rattle.falcon_core.specs.Calls.{Request, Planning, opens, ticks, reports, commands, plans, points, zones, totals, commandedBy, legsIn, startOf, startPoints, pointsAfter, plannedOf, flightAfter, waypointsAfter, afterOf, stepOf}
 use Rattle.falcon_core.specs.SoundState.{FitPoint, FitZone, FitHold, FitFlight, FitOpening, FitTick, Lent, LentPlan}
 use Rattle.falcon_core.proofs.Refused.{step-keeps}
 use Rattle.falcon_core.proofs.Parts.{cond-keeps, reported-keeps, tick-flight}
@@ -118,6 +118,7 @@ planned-fits f ws (zones zs) l k = record {
   zones = λ i. rw (stored-zones-filled zs (keptZonesOf zs)) (filled-holds FitZone noPlace noZone maxKeepoutZones (zoneAtOf zs) (keptZonesOf zs) i no-place-fits no-zone-fits (zone-fits zs l));
   hold = k .hold;
 }
+planned-fits f ws totals l k = k
 
 after-fits : (s : Supervisor) (r : Request) → Lent r → FitFlight (s .flight) (s .waypoints) → FitFlight (afterOf s r .flight) (afterOf s r .waypoints)
 unfolding afterOf flightAfter waypointsAfter startOf startPoints commandedBy

@@ -13,8 +13,9 @@ use Rattle.falcon_flight.specs.Tick.{tickOf}
 use Rattle.falcon_core.specs.declared.supervisor.Supervisor.{Supervisor}
 use Rattle.falcon_core.specs.declared.calls.FlightAnswered.{FlightAnswered}
 use Rattle.falcon_core.specs.declared.calls.Output.the-variants.{Nothing, Ticks}
-use Rattle.falcon_core.specs.Calls.{Request, ticks, reports, commands, isReport, dueAfter, commandedBy, shapeRefusal, sequenceRefusal, stateRefusal, refusalOf, legsIn, flightAfter, waypointsAfter, outputOf, afterOf}
-use Rattle.falcon_core.specs.Calls.{refusedOf, acceptedOf, stepOf, flightRefusedOf, flightAcceptedOf, noLegs, flightStepOf, besideOf}
+use Rattle.falcon_core.specs.Calls.{Request, ticks, reports, commands, isReport, dueAfter, commandedBy, shapeRefusal, sequenceRefusal, stateRefusal, refusalOf, legsIn, flightAfter, waypointsAfter, outputOf, totalsAfter, afterOf}
+use Rattle.falcon_core.specs.Calls.{answerOf, refusedOf, acceptedOf, stepOf, flightRefusedOf, flightAcceptedOf, noLegs, flightStepOf, besideOf}
+use Rattle.falcon_totals.proofs.Counting.{uncounted}
 use Rattle.falcon_core.proofs.Answers.{step-refused, step-accepted}
 
 module _ (f : FlightSupervisor) (opened due : Bool) (l : Legs) where
@@ -63,27 +64,27 @@ module _ (s : Supervisor) where
   sequence report = sequenceRefusal (s .opened) (s .«report_due») report
 
   tick-by : (t : Tick) (n : ℕ) → sequence false ≡ n → besideOf s (parts (legsIn s) (ticks t)) ≡ stepOf s (ticks t)
-  unfolding flightStepOf refusalOf shapeRefusal stateRefusal flightRefusedOf flightAcceptedOf refusedOf acceptedOf afterOf flightAfter waypointsAfter outputOf
+  unfolding flightStepOf refusalOf shapeRefusal stateRefusal flightRefusedOf flightAcceptedOf refusedOf acceptedOf afterOf flightAfter waypointsAfter outputOf totalsAfter answerOf
   tick-by t zero e = rw (step-accepted s (ticks t) (rw e), e)
-  tick-by t (suc n) e = rw (step-refused s (ticks t) n (rw e), e, eqb·suc-zero n)
+  tick-by t (suc n) e = rw (step-refused s (ticks t) n (rw e), e, eqb·suc-zero n, uncounted (s .totals) (s .flight .fsm .mode))
 
   -- a tick leaves the waypoints, and of the rest what the flight's tick does
   pub tick-beside : (t : Tick) (l : Legs) (a : FlightAnswered) → l ≡ legsIn s → a ≡ parts l (ticks t) → besideOf s a ≡ stepOf s (ticks t)
   tick-beside t l a el e = ap (besideOf s) (e ∙ ap (λ (k : Legs). parts k (ticks t)) el) ∙ tick-by t (sequence false) refl
 
   report-by : (failed : Bool) (n : ℕ) → sequence true ≡ n → besideOf s (parts noLegs (reports failed)) ≡ stepOf s (reports failed)
-  unfolding flightStepOf refusalOf shapeRefusal stateRefusal flightRefusedOf flightAcceptedOf refusedOf acceptedOf afterOf flightAfter waypointsAfter outputOf
+  unfolding flightStepOf refusalOf shapeRefusal stateRefusal flightRefusedOf flightAcceptedOf refusedOf acceptedOf afterOf flightAfter waypointsAfter outputOf totalsAfter answerOf
   report-by failed zero e = rw (step-accepted s (reports failed) (rw e), e)
-  report-by failed (suc n) e = rw (step-refused s (reports failed) n (rw e), e, eqb·suc-zero n)
+  report-by failed (suc n) e = rw (step-refused s (reports failed) n (rw e), e, eqb·suc-zero n, uncounted (s .totals) (s .flight .fsm .mode))
 
   -- a report
   pub report-beside : (failed : Bool) (a : FlightAnswered) → a ≡ parts noLegs (reports failed) → besideOf s a ≡ stepOf s (reports failed)
   report-beside failed a e = ap (besideOf s) e ∙ report-by failed (sequence true) refl
 
   command-by : (ev : Event) (level low : Bool) (n : ℕ) → sequence false ≡ n → besideOf s (parts noLegs (commands ev level low)) ≡ stepOf s (commands ev level low)
-  unfolding flightStepOf refusalOf shapeRefusal stateRefusal flightRefusedOf flightAcceptedOf refusedOf acceptedOf afterOf flightAfter waypointsAfter outputOf
+  unfolding flightStepOf refusalOf shapeRefusal stateRefusal flightRefusedOf flightAcceptedOf refusedOf acceptedOf afterOf flightAfter waypointsAfter outputOf totalsAfter answerOf
   command-by ev level low zero e = rw (step-accepted s (commands ev level low) (rw e), e)
-  command-by ev level low (suc n) e = rw (step-refused s (commands ev level low) n (rw e), e, eqb·suc-zero n)
+  command-by ev level low (suc n) e = rw (step-refused s (commands ev level low) n (rw e), e, eqb·suc-zero n, uncounted (s .totals) (s .flight .fsm .mode))
 
   -- a command
   pub command-beside :

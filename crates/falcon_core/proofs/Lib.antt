@@ -14,3 +14,4 @@ pub mod SoundTest
 pub mod Fits
 pub mod Battery
 pub mod Numbers
+pub mod Totals

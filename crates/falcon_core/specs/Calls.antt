@@ -6,6 +6,7 @@ use lib.Dec.{eqb, leb}
 use lib.ListN.{length}
 use lib.Ieee.{Float, binary32, toBits}
 use Rattle.relay_fsm.specs.declared.Event.{Event}
+use Rattle.relay_fsm.specs.declared.Mode.{Mode}
 use Rattle.relay_fsm.specs.Mode.{modeNumber}
 use Rattle.relay_fsm.specs.Fsm.{onOf}
 use Rattle.relay_preflight.specs.declared.TableVerdict.{TableVerdict}
@@ -23,7 +24,7 @@ use Rattle.falcon_core.specs.declared.supervisor.Supervisor.{Supervisor}
 use Rattle.falcon_flight.specs.declared.tick.TickAnswer.{TickAnswer}
 use Rattle.falcon_flight.specs.declared.tick.TickAnswer.the-variants.{MotorsOff, Setpoint}
 use Rattle.falcon_core.specs.declared.calls.Output.{Output}
-use Rattle.falcon_core.specs.declared.calls.Output.the-variants.{Nothing, Ticks}
+use Rattle.falcon_core.specs.declared.calls.Output.the-variants.{Nothing, Ticks, Totals}
 use Rattle.falcon_core.specs.declared.calls.Answer.{Answer}
 use Rattle.falcon_core.specs.declared.calls.Answered.{Answered}
 use Rattle.falcon_core.specs.declared.calls.FlightAnswered.{FlightAnswered}
@@ -33,13 +34,16 @@ use Rattle.falcon_guidance.specs.Mission.{noPoints, triedOf, allAdmissibleOf, l
 use Rattle.falcon_guidance.specs.Zones.{loadedZonesOf}
 use Rattle.falcon_failsafe.specs.Failsafe.{reportedOf}
 use Rattle.falcon_flight.specs.Tick.{tickOf}
+use Rattle.falcon_totals.specs.declared.DayTotals.{DayTotals}
+use Rattle.falcon_totals.specs.Totals.{noTotals, countedOf}
 use Rattle.falcon_core.specs.Refusals.{orElse, wrongCount, outOfRange, noOpening, reportDue, noReportDue, inadmissible}
 
--- what the planner asks between ticks: points (three numbers each) or zones (four numbers each). It leaves the mode, the battery, the counts and the
--- configuration as they are
+-- what the planner asks between ticks: points (three numbers each), zones (four numbers each) or the day totals. It leaves the mode, the battery, the
+-- counts and the configuration as they are
 pub data Planning : Type 0 where
   points : List Float → Planning
   zones : List Float → Planning
+  totals : Planning
 
 -- what a call asks: an opening, a tick, a report (failed), a command (event, level, low throttle) or what the planner asks
 pub data Request : Type 0 where
@@ -53,6 +57,7 @@ pub data Request : Type 0 where
 abbrev pub miscountedPlan : Planning → Bool
 miscountedPlan (points l) = not (eqb (length l % pointNumbers) 0)
 miscountedPlan (zones l) = not (eqb (length l % zoneNumbers) 0)
+miscountedPlan totals = false
 
 abbrev pub miscounted : Request → Bool
 miscounted (opens o) = false
@@ -88,6 +93,7 @@ isReport (plans p) = false
 abbrev pub planRefused : FlightSupervisor → Planning → Bool
 planRefused f (points l) = not (allAdmissibleOf (f .config) l (triedOf l))
 planRefused f (zones l) = false
+planRefused f totals = false
 
 abbrev pub pointRefused : Supervisor → Request → Bool
 pointRefused s (opens o) = false
@@ -147,14 +153,17 @@ startPoints o = noPoints
 abbrev pub pointsAfter : List Point → Planning → List Point
 pointsAfter ps (points l) = loadedPointsOf l
 pointsAfter ps (zones l) = ps
+pointsAfter ps totals = ps
 
 abbrev pub missionAfter : FlightSupervisor → Planning → Mission
 missionAfter f (points l) = loadedOf l
 missionAfter f (zones l) = f .mission
+missionAfter f totals = f .mission
 
 abbrev pub zonesAfter : FlightSupervisor → Planning → Zones
 zonesAfter f (points l) = f .zones
 zonesAfter f (zones l) = loadedZonesOf l
+zonesAfter f totals = f .zones
 
 -- the flight after what the planner asks
 unfoldable pub plannedOf : FlightSupervisor → Planning → FlightSupervisor
@@ -176,18 +185,33 @@ waypointsAfter ps (reports failed) = ps
 waypointsAfter ps (commands ev level low) = ps
 waypointsAfter ps (plans p) = pointsAfter ps p
 
+-- what an accepted call of the planner answers beside the mode and the checks
+abbrev pub planOutput : Planning → Output
+planOutput (points l) = Nothing
+planOutput (zones l) = Nothing
+planOutput totals = Totals
+
 -- what an accepted call answers beside the mode and the checks
 unfoldable pub outputOf : FlightSupervisor → Legs → Request → Output
 outputOf f l (opens o) = Nothing
 outputOf f l (ticks t) = Ticks (tickOf f l t .answer)
 outputOf f l (reports failed) = Nothing
 outputOf f l (commands ev level low) = Nothing
-outputOf f l (plans p) = Nothing
+outputOf f l (plans p) = planOutput p
 
 -- a report is due "after every tick that doesn't say motors off", and after nothing else
 abbrev pub reportDueAfter : Output → Bool
 reportDueAfter Nothing = false
 reportDueAfter (Ticks answer) = dueAfter answer
+reportDueAfter Totals = false
+
+-- the day totals after an accepted call that began and ended in these modes: "Totals start at zero with the opening"
+unfoldable pub totalsAfter : DayTotals → Mode → Mode → Request → DayTotals
+totalsAfter t began ended (opens o) = noTotals
+totalsAfter t began ended (ticks x) = countedOf t true began ended
+totalsAfter t began ended (reports failed) = countedOf t false began ended
+totalsAfter t began ended (commands ev level low) = countedOf t false began ended
+totalsAfter t began ended (plans p) = t
 
 -- the state after an accepted call
 unfoldable pub afterOf : Supervisor → Request → Supervisor
@@ -197,6 +221,7 @@ afterOf s r =
       waypoints = waypointsAfter (s .waypoints) r;
       opened = isOpening r || s .opened;
       «report_due» = reportDueAfter (outputOf (s .flight) (legsIn s) r);
+      totals = totalsAfter (s .totals) (s .flight .fsm .mode) (flightAfter (s .flight) (legsIn s) r .fsm .mode) r;
     }
 
 -- "the mode as it is", and "the last two fields as they are"
@@ -243,15 +268,36 @@ flightStepOf f opened due l r =
 
 -- the state with this flight and these waypoints, a report due or not, and its other parts as they were
 abbrev pub withFlight : Supervisor → FlightSupervisor → List Point → Bool → Supervisor
-withFlight s f ps due = record { flight = f; waypoints = ps; opened = s .opened; «report_due» = due }
+withFlight s f ps due = record { flight = f; waypoints = ps; opened = s .opened; «report_due» = due; totals = s .totals }
 
 -- the state with this list of waypoints for the old one
 abbrev pub withPoints : Supervisor → List Float → Supervisor
 withPoints s l = withFlight s (withMission (s .flight) (loadedOf l)) (loadedPointsOf l) (s .«report_due»)
 
+-- an accepted tick's answer
+abbrev pub isTick : Output → Bool
+isTick Nothing = false
+isTick (Ticks answer) = true
+isTick Totals = false
+
+-- the day totals after a tick, a report or a command that began in this mode and was answered so: a refused one ends in the mode it began in
+abbrev pub totalsBeside : DayTotals → Mode → Answer → DayTotals
+totalsBeside t began a = countedOf t (isTick (a .output)) began (a .mode)
+
 -- the answer with the state's other parts as they were
 abbrev pub besideOf : Supervisor → FlightAnswered → Answered
-besideOf s a = record { supervisor = withFlight s (a .flight) (s .waypoints) (a .«report_due»); answer = a .answer }
+besideOf s a =
+    record {
+      supervisor =
+          record {
+            flight = a .flight;
+            waypoints = s .waypoints;
+            opened = s .opened;
+            «report_due» = a .«report_due»;
+            totals = totalsBeside (s .totals) (s .flight .fsm .mode) (a .answer);
+          };
+      answer = a .answer;
+    }
 
 -- 0 or 1
 abbrev pub flag : Bool → ℕ
@@ -261,6 +307,7 @@ flag false = 0
 -- "Fields 3 to 8 are 0 save for an accepted tick; motors off gives setpoint 0": landing, motors off, rearm, setpoint
 abbrev pub outputNumbers : Output → List ℕ
 outputNumbers Nothing = 0 ∷ 0 ∷ 0 ∷ 0 ∷ 0 ∷ 0 ∷ []
+outputNumbers Totals = 0 ∷ 0 ∷ 0 ∷ 0 ∷ 0 ∷ 0 ∷ []
 outputNumbers (Ticks MotorsOff) = 0 ∷ 1 ∷ 0 ∷ 0 ∷ 0 ∷ 0 ∷ []
 outputNumbers (Ticks (Setpoint ned landing rearm)) =
     flag landing ∷ 0 ∷ flag rearm ∷ toBits binary32 (ned .x) ∷ toBits binary32 (ned .y) ∷ toBits binary32 (ned .z) ∷ []

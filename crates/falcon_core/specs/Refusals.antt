@@ -9,7 +9,7 @@ shortBuffer = 9
 abbrev pub notALine : ℕ
 notALine = 2
 
--- "kind not 1..6"
+-- "kind not 1..6"; U1: "Refusal 3 no longer fits a kind from the request on that takes lines of it"
 abbrev pub unknownKind : ℕ
 unknownKind = 3
 

@@ -4,6 +4,7 @@ use Rattle.falcon_guidance.specs.State.{zerof, origin}
 use Rattle.falcon_guidance.specs.Mission.{noPoints}
 use Rattle.falcon_failsafe.specs.Flight.{openedOf}
 use Rattle.falcon_failsafe.specs.declared.flight.Opening.{Opening}
+use Rattle.falcon_totals.specs.Totals.{noTotals}
 use Rattle.falcon_core.specs.declared.supervisor.Supervisor.{Supervisor}
 
 -- an opening of zeros
@@ -21,4 +22,4 @@ zeroOpening =
 
 -- the state with no opening: no answer shows more of it than mode 0, no check outstanding and no blocker
 unfoldable pub unopened : Supervisor
-unopened = record { flight = openedOf zeroOpening; waypoints = noPoints; opened = false; «report_due» = false }
+unopened = record { flight = openedOf zeroOpening; waypoints = noPoints; opened = false; «report_due» = false; totals = noTotals }

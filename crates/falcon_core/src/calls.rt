@@ -1,7 +1,7 @@
 // The calls by lent values. Each takes the state and gives the state after it with its answer.
 ghost use mathlib.Core.Path.{_≡_};
-ghost use Rattle.falcon_core.specs.Calls.{opens, ticks, reports, commands, plans, points, zones, sequenceRefusal, allowedOf, commandedBy, dueAfter, answerOf, refusedOf, acceptedOf};
-ghost use Rattle.falcon_core.specs.Calls.{stepOf, flightRefusedOf, flightAcceptedOf, noLegs, flightStepOf, besideOf, withPoints, flag, numbersOf};
+ghost use Rattle.falcon_core.specs.Calls.{opens, ticks, reports, commands, plans, points, zones, totals, sequenceRefusal, allowedOf, commandedBy, dueAfter, answerOf, refusedOf, acceptedOf};
+ghost use Rattle.falcon_core.specs.Calls.{stepOf, flightRefusedOf, flightAcceptedOf, noLegs, flightStepOf, isTick, totalsBeside, besideOf, withPoints, flag, numbersOf};
 use crate::supervisor::Supervisor;
 use falcon_failsafe::failsafe::reported;
 use falcon_failsafe::flight::FlightSupervisor;
@@ -18,6 +18,7 @@ use falcon_guidance::state::Point;
 use falcon_guidance::state::Tick;
 use falcon_guidance::state::Zone;
 use falcon_guidance::zones::loaded_zones;
+use falcon_totals::DayTotals;
 use relay_fsm::Event;
 use relay_fsm::Gates;
 use relay_fsm::Mode;
@@ -26,10 +27,11 @@ use relay_preflight::CheckTable;
 use relay_preflight::TableVerdict;
 use relay_preflight::arm_check_table;
 
-// What an answer holds beside the mode and the checks: a tick's answer, or nothing.
+// What an answer holds beside the mode and the checks: nothing, a tick's answer, or the totals of the state.
 pub enum Output {
     Nothing,
     Ticks(TickAnswer),
+    Totals,
 }
 
 // The answer to a call.
@@ -64,7 +66,7 @@ impl Answer {
     pub const SHORT_BUFFER: u32 = 9;
     // Not a sheet line.
     pub const NOT_A_LINE: u32 = 2;
-    // The kind is not 1..6.
+    // The kind is not 1..7.
     pub const UNKNOWN_KIND: u32 = 3;
     // A wrong field count; lent points not three each, or zones not four each.
     pub const WRONG_COUNT: u32 = 4;
@@ -91,6 +93,7 @@ impl Answer {
         let b = verdict.number();
         match output {
             Output::Nothing => [self.refusal, m, 0, 0, 0, 0, 0, 0, o, b],
+            Output::Totals => [self.refusal, m, 0, 0, 0, 0, 0, 0, o, b],
             Output::Ticks(answer) => match answer {
                 TickAnswer::MotorsOff => [self.refusal, m, 0, 1, 0, 0, 0, 0, o, b],
                 TickAnswer::Setpoint {
@@ -296,15 +299,41 @@ pub fn flight_command(
     )
 }
 
+// Whether an answer is an accepted tick's.
+fn is_tick(output: Output) -> bool
+    ensures { λ r. ⌜ r ≡ isTick output ⌝ }
+{
+    match output {
+        Output::Nothing => false,
+        Output::Ticks(_) => true,
+        Output::Totals => false,
+    }
+}
+
+// The totals after a tick, a report or a command that began in this mode and was answered so.
+pub fn totals_after(t: DayTotals, began: Mode, a: Answer) -> DayTotals
+    ensures { λ r. ⌜ r ≡ totalsBeside t began a ⌝ }
+{
+    let ended = a.mode;
+    let output = a.output;
+    t.counted(is_tick(output), began, ended)
+}
+
 // What a tick, a report or a command leaves, with the state's other parts as they were.
 fn beside(s: Supervisor, told: FlightAnswered) -> Answered
     ensures { λ r. ⌜ r ≡ besideOf s told ⌝ }
 {
+    let before = s.flight;
+    let fsm = before.fsm;
+    let began = fsm.mode;
     let flight = told.flight;
     let answer = told.answer;
+    let counted = s.totals;
+    let totals = totals_after(counted, began, answer);
     let mut next = s;
     next.flight = flight;
     next.report_due = told.report_due;
+    next.totals = totals;
     Answered {
         supervisor: next,
         answer,
@@ -339,6 +368,7 @@ impl Supervisor {
             waypoints,
             opened: true,
             report_due: false,
+            totals: DayTotals::new(),
         };
         accepted(next, Output::Nothing)
     }
@@ -421,5 +451,16 @@ impl Supervisor {
         let mut next = self;
         next.flight = flight;
         accepted(next, Output::Nothing)
+    }
+
+    // The day totals, which the answer's state has.
+    pub fn totals(self) -> Answered
+        ensures { λ r. ⌜ r ≡ stepOf self (plans totals) ⌝ }
+    {
+        let refusal = sequence_refusal(self.opened, self.report_due, false);
+        if refusal != Answer::ACCEPTED {
+            return refused(self, refusal);
+        }
+        accepted(self, Output::Totals)
     }
 }

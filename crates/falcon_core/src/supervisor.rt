@@ -5,13 +5,15 @@ use falcon_failsafe::flight::FlightSupervisor;
 use falcon_failsafe::flight::Opening;
 use falcon_guidance::mission::no_points;
 use falcon_guidance::state::Point;
+use falcon_totals::DayTotals;
 
-// The supervisor: the flight, the waypoints, whether there was an opening, and whether a report is due. Unused places hold the origin.
+// The supervisor: the flight, the waypoints, whether there was an opening, whether a report is due, and the day totals. Unused places hold the origin.
 pub struct Supervisor {
     pub flight: FlightSupervisor,
     pub waypoints: [Point; Point::MAX_WAYPOINTS],
     pub opened: bool,
     pub report_due: bool,
+    pub totals: DayTotals,
 }
 
 impl Supervisor {
@@ -34,6 +36,7 @@ impl Supervisor {
             waypoints,
             opened: false,
             report_due: false,
+            totals: DayTotals::new(),
         }
     }
 }

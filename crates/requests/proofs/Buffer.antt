@@ -1,41 +1,62 @@
 -- The state, the refusal and the buffer by the buffer's length. Assumes nothing.
-use Prim.Native.Nat.{ℕ, _+_, _*_, _≤_, _<_}
+use Prim.Native.Nat.{ℕ, zero, suc, _+_, _*_, _≤_, _<_}
 use native.Mathlib.Omega.{arith}
-use mathlib.Core.Path.{_≡_, refl, sym, ap, _∙_}
+use mathlib.Core.Path.{_≡_, refl, sym, ap, _∙_, subst}
+use mathlib.Core.Bool.{Bool, true, false, cond}
 use mathlib.Core.List.{List, [], _++_, append-nil}
-use borrow.Author.Tests.{lt-ltb, le-ltb}
+use borrow.Author.Tests.{lt-ltb, le-ltb, ne-eqb}
+use lib.Dec.{eqb, ltb}
 use lib.ListN.{length, drop, length-append}
 use Rattle.falcon_core.specs.declared.supervisor.Supervisor.{Supervisor}
 use Rattle.falcon_core.specs.declared.calls.Answered.{Answered}
 use Rattle.falcon_core.specs.declared.calls.Output.{Output}
-use Rattle.falcon_core.specs.declared.calls.Output.the-variants.{Nothing, Ticks}
-use Rattle.falcon_core.specs.Calls.{answerFields, refusedOf, numbersOf}
-use Rattle.falcon_core.specs.Refusals.{shortBuffer}
+use Rattle.falcon_core.specs.declared.calls.Output.the-variants.{Nothing, Ticks, Totals}
+use Rattle.falcon_core.specs.Calls.{Request, plans, totals, answerFields, refusalOf, legsIn, outputOf, afterOf, answerOf, refusedOf, acceptedOf, numbersOf}
+use Rattle.falcon_core.specs.Refusals.{shortBuffer, notALine}
+use Rattle.falcon_core.proofs.Answers.{step-refused, step-accepted}
+use Rattle.falcon_core.proofs.Parts.{cond-keeps}
+use Rattle.falcon_totals.specs.Totals.{totalFields, totalsNumbers}
 use Rattle.columns.specs.declared.field.FieldRead.{FieldRead}
 use Rattle.columns.specs.declared.field.FieldRead.the-variants.{Number, Bad}
-use Rattle.columns.specs.Field.{fieldWidth, inRange, kindOf}
-use Rattle.columns.specs.Line.{lineOf, writtenOver}
+use Rattle.columns.specs.Field.{fieldWidth, numberLimit, inRange, kindOf}
+use Rattle.columns.specs.Line.{Reading, read, broken, lineOf, writtenOver}
 use Rattle.columns.proofs.Writing.{length-line}
-use Rattle.requests.specs.Kinds.{answeredBy}
-use Rattle.requests.specs.Parse.{askedLine}
+use Rattle.requests.specs.Kinds.{Asked, refuses, asks, answeredBy, numberAt, totalsKind, requestOf}
+use Rattle.requests.specs.Parse.{askedBy, readingLine, askedLine}
 use Rattle.falcon_core.proofs.Numbers.{numbers-count}
-use Rattle.requests.specs.ByLine.{answerWidth, needFields, mostNeeded, needOf, askedWith, lineStep, extraOf, replyNumbers, replyOf, bufferAfter}
+use Rattle.requests.proofs.Asking.{reading-kind}
+use Rattle.requests.proofs.ByKind.{request-keeps}
+use Rattle.requests.specs.ByLine.{answerWidth, totalsAnswer, needFields, mostNeeded, needOf, askedWith, lineStep, extraOf, replyNumbers, replyOf, bufferAfter}
 
 -- ---- what a line needs
 
-need-ordinary : (k : FieldRead) → needFields k ≡ answerFields
-unfolding needFields
-need-ordinary (Number n) = refl
-need-ordinary Bad = refl
+-- "a buffer under 209 bytes for kind 7"
+pub need-totals : (v : ℕ) → v ≡ totalsKind → totalsAnswer ≡ needFields (inRange v)
+unfolding needFields inRange
+need-totals v e = rw e
 
-pub need-is : (v : ℕ) → answerFields ≡ needFields (inRange v)
-need-is v = sym (need-ordinary (inRange v))
+need-seven : (v : ℕ) → v ≡ totalsKind → totalsAnswer ≡ needFields (Number v)
+unfolding needFields
+need-seven v e = rw e
+
+-- and under 110 for any other
+pub need-other : (v : ℕ) → (v ≡ totalsKind → ⊥) → answerFields ≡ needFields (inRange v)
+unfolding needFields inRange
+need-other v h = go (ltb v numberLimit) refl
+  where
+    go : (b : Bool) → ltb v numberLimit ≡ b → answerFields ≡ needFields (cond (ltb v numberLimit) (Number v) Bad)
+    go true e = rw (e, ne-eqb v totalsKind h)
+    go false e = rw e
 
 need-least : (k : FieldRead) → answerFields ≤ needFields k
-need-least k = omega (arith, need-ordinary k)
+unfolding needFields
+need-least (Number n) = cond-keeps (λ (m : ℕ). answerFields ≤ m) (eqb n totalsKind) _ _ (omega arith) (omega arith)
+need-least Bad = omega arith
 
 pub need-most : (k : FieldRead) → needFields k ≤ mostNeeded
-need-most k = omega (arith, need-ordinary k)
+unfolding needFields
+need-most (Number n) = cond-keeps (λ (m : ℕ). m ≤ mostNeeded) (eqb n totalsKind) _ _ (omega arith) (omega arith)
+need-most Bad = omega arith
 
 -- every line needs room for ten fields
 pub needs-least : (line : List ℕ) → answerWidth ≤ needOf line
@@ -54,15 +75,49 @@ needs-kinded line n v e k = ap (λ (m : ℕ). fieldWidth * m) (e ∙ ap needFiel
 
 -- ---- what an answer takes
 
--- an answer of either case has no more fields than a line of any kind needs
-answer-fits : (s : Supervisor) (o : Output) (k : FieldRead) → answerFields + length (extraOf s o) ≤ needFields k
-unfolding extraOf
-answer-fits s Nothing k = omega (arith, need-least k)
-answer-fits s (Ticks t) k = omega (arith, need-least k)
+-- the numbers behind the ten of an answer
+abbrev extraBy : Supervisor → Asked → List ℕ
+extraBy s k = extraOf (answeredBy s k .supervisor) (answeredBy s k .answer .output)
+
+-- a refused call has none
+step-extra :
+    (s : Supervisor) (r : Request) (x n : ℕ) →
+    refusalOf s r ≡ n →
+    length (extraOf (afterOf s r) (outputOf (s .flight) (legsIn s) r)) ≡ x →
+    length (extraBy s (asks r)) ≤ x
+unfolding refusedOf acceptedOf answerOf extraOf
+step-extra s r x zero e h = rw (step-accepted s r e) (omega (arith, h))
+step-extra s r x (suc n) e h = rw (step-refused s r n e) (omega arith)
+
+-- an answer's numbers are no more than its kind needs
+abbrev Fits : ℕ → Asked → Type 0
+Fits need k = (s : Supervisor) → answerFields + length (extraBy s k) ≤ need
+
+ten-fit : (need : ℕ) (r : Request) → answerFields ≤ need → ((s : Supervisor) → length (extraOf (afterOf s r) (outputOf (s .flight) (legsIn s) r)) ≡ 0) → Fits need (asks r)
+ten-fit need r h e s = omega (arith, h, step-extra s r 0 (refusalOf s r) refl (e s))
+
+refused-fit : (need n : ℕ) → answerFields ≤ need → Fits need (refuses n)
+unfolding refusedOf answerOf extraOf
+refused-fit need n h s = h
+
+numbers-fit : (ns : List ℕ) → Fits (needFields (Number (numberAt ns 0))) (requestOf ns)
+unfolding outputOf extraOf totalsNumbers
+numbers-fit ns =
+    let need = needFields (Number (numberAt ns 0)) in
+    let least = need-least (Number (numberAt ns 0)) in
+    request-keeps (Fits need) (λ n. refused-fit need n least) ns (ten-fit need _ least (λ s. refl)) (ten-fit need _ least (λ s. refl)) (ten-fit need _ least (λ s. refl))
+    (λ ev. ten-fit need _ least (λ s. refl))
+    (ten-fit need _ least (λ s. refl))
+    (ten-fit need _ least (λ s. refl))
+    (λ e s. omega (arith, need-seven (numberAt ns 0) e, step-extra s (plans totals) totalFields (refusalOf s (plans totals)) refl refl))
+
+line-fit : (line : List ℕ) (k : Reading) → readingLine line ≡ k → Fits (needFields (kindOf line)) (askedBy k)
+line-fit line (read ns) e = subst (λ (f : FieldRead). Fits (needFields f) (requestOf ns)) (sym (reading-kind line ns e)) (numbers-fit ns)
+line-fit line broken e = refused-fit (needFields (kindOf line)) notALine (need-least (kindOf line))
 
 -- a reply is no longer than what its line needs
 pub reply-fits : (s : Supervisor) (line : List ℕ) → length (replyOf (answeredBy s (askedLine line))) ≤ needOf line
-unfolding replyOf replyNumbers needOf
+unfolding replyOf replyNumbers needOf askedLine
 reply-fits s line =
     let a : Answered = answeredBy s (askedLine line) in
     let extra : List ℕ = extraOf (a .supervisor) (a .answer .output) in
@@ -71,18 +126,25 @@ reply-fits s line =
       length-line (numbersOf (a .answer) ++ extra),
       length-append (numbersOf (a .answer)) extra,
       numbers-count (a .answer),
-      answer-fits (a .supervisor) (a .answer .output) (kindOf line),
+      line-fit line (readingLine line) refl s,
     )
 
-extra-none : (s : Supervisor) (o : Output) → extraOf s o ≡ []
+-- an answer without the totals has its ten numbers
+extra-none : (s : Supervisor) (o : Output) → (o ≡ Totals → ⊥) → extraOf s o ≡ []
 unfolding extraOf
-extra-none s Nothing = refl
-extra-none s (Ticks t) = refl
+extra-none s Nothing h = refl
+extra-none s (Ticks t) h = refl
+extra-none s Totals h = absurd (h refl)
 
-pub reply-ten : (a : Answered) → numbersOf (a .answer) ≡ replyNumbers a
+pub reply-ten : (a : Answered) → (a .answer .output ≡ Totals → ⊥) → numbersOf (a .answer) ≡ replyNumbers a
 unfolding replyNumbers
-reply-ten a =
-    sym (ap (λ (l : List ℕ). numbersOf (a .answer) ++ l) (extra-none (a .supervisor) (a .answer .output)) ∙ append-nil (numbersOf (a .answer)))
+reply-ten a h =
+    sym (ap (λ (l : List ℕ). numbersOf (a .answer) ++ l) (extra-none (a .supervisor) (a .answer .output) h) ∙ append-nil (numbersOf (a .answer)))
+
+-- one with them has these behind its ten
+pub reply-totals : (a : Answered) → a .answer .output ≡ Totals → numbersOf (a .answer) ++ totalsNumbers (a .supervisor .totals) ≡ replyNumbers a
+unfolding replyNumbers extraOf
+reply-totals a e = rw e
 
 -- numbers that fit are written, and what stands behind them stays
 pub written-fits : (ns out : List ℕ) → fieldWidth * length ns ≤ length out → writtenOver ns out ≡ lineOf ns ++ drop (length (lineOf ns)) out

@@ -1,3 +1,5 @@
 pub mod Asking
+pub mod ByKind
 pub mod Buffer
 pub mod Lent
+pub mod TotalsLine

@@ -1,34 +1,39 @@
 -- A call by line: the state, the refusal and the whole buffer after it.
-use Prim.Native.Nat.{ℕ, _*_}
+use Prim.Native.Nat.{ℕ, _+_, _*_}
 use mathlib.Core.Bool.{cond}
 use mathlib.Core.List.{List, [], _++_}
-use lib.Dec.{ltb}
+use lib.Dec.{eqb, ltb}
 use lib.ListN.{length, drop}
 use Rattle.falcon_core.specs.declared.supervisor.Supervisor.{Supervisor}
 use Rattle.falcon_core.specs.declared.calls.Answered.{Answered}
 use Rattle.falcon_core.specs.declared.calls.Output.{Output}
-use Rattle.falcon_core.specs.declared.calls.Output.the-variants.{Nothing, Ticks}
+use Rattle.falcon_core.specs.declared.calls.Output.the-variants.{Nothing, Ticks, Totals}
 use Rattle.falcon_core.specs.Calls.{answerFields, numbersOf}
 use Rattle.falcon_core.specs.Refusals.{shortBuffer}
 use Rattle.columns.specs.declared.field.FieldRead.{FieldRead}
 use Rattle.columns.specs.declared.field.FieldRead.the-variants.{Number, Bad}
 use Rattle.columns.specs.Field.{fieldWidth, kindOf}
 use Rattle.columns.specs.Line.{lineOf}
-use Rattle.requests.specs.Kinds.{Asked, refuses, answeredBy}
+use Rattle.falcon_totals.specs.Totals.{totalFields, totalsNumbers}
+use Rattle.requests.specs.Kinds.{Asked, refuses, answeredBy, totalsKind}
 use Rattle.requests.specs.Parse.{askedLine}
 
 -- "110 bytes"
 abbrev pub answerWidth : ℕ
 answerWidth = fieldWidth * answerFields
 
--- how many fields an answer buffer must have room for, by the line's kind
+-- U1: "the ordinary ten fields and then the nine totals"
+abbrev pub totalsAnswer : ℕ
+totalsAnswer = answerFields + totalFields
+
+-- how many fields an answer buffer must have room for, by the line's kind. U1: "a buffer under 209 bytes for kind 7"
 unfoldable pub needFields : FieldRead → ℕ
-needFields (Number n) = answerFields
+needFields (Number n) = cond (eqb n totalsKind) totalsAnswer answerFields
 needFields Bad = answerFields
 
 -- the most fields that an answer buffer must have room for
 abbrev pub mostNeeded : ℕ
-mostNeeded = answerFields
+mostNeeded = totalsAnswer
 
 -- the bytes that a line's answer buffer must have
 unfoldable pub needOf : List ℕ → ℕ
@@ -46,6 +51,7 @@ lineStep s line out = answeredBy s (askedWith line out)
 unfoldable pub extraOf : Supervisor → Output → List ℕ
 extraOf s Nothing = []
 extraOf s (Ticks t) = []
+extraOf s Totals = totalsNumbers (s .totals)
 
 -- the numbers of an answer
 unfoldable pub replyNumbers : Answered → List ℕ

@@ -21,9 +21,9 @@ use Rattle.requests.specs.declared.kinds.Kind.the-variants.{Flight, Othe
 use Rattle.requests.specs.declared.kinds.FlightCall.{FlightCall}
 use Rattle.requests.specs.declared.kinds.FlightCall.the-variants.{Ticks, Reports, Commands}
 use Rattle.requests.specs.declared.kinds.OtherCall.{OtherCall}
-use Rattle.requests.specs.declared.kinds.OtherCall.the-variants.{Refused, Opens, Points, Zones}
+use Rattle.requests.specs.declared.kinds.OtherCall.the-variants.{Refused, Opens, Points, Zones, Totals}
 use Rattle.falcon_guidance.specs.State.{pointOf, pointNumbers, zoneNumbers}
-use Rattle.falcon_core.specs.Calls.{Request, opens, ticks, reports, commands, plans, points, zones, refusedOf, stepOf}
+use Rattle.falcon_core.specs.Calls.{Request, opens, ticks, reports, commands, plans, points, zones, totals, refusedOf, stepOf}
 use Rattle.falcon_core.specs.Refusals.{unknownKind, wrongCount, outOfRange}
 
 -- what a line asks, or the refusal that fits it whatever the state
@@ -160,6 +160,16 @@ pointsLine ns = cond (isList pointNumbers ns) (asks (plans (points (listFloats n
 unfoldable pub zonesLine : List ℕ → Asked
 zonesLine ns = cond (isList zoneNumbers ns) (asks (plans (zones (listFloats ns)))) (refuses wrongCount)
 
+-- U1: "Line kind 7, with no further field"
+abbrev pub totalsKind : ℕ
+totalsKind = 7
+
+abbrev pub totalsFields : ℕ
+totalsFields = 1
+
+unfoldable pub totalsLine : List ℕ → Asked
+totalsLine ns = cond (eqb (length ns) totalsFields) (asks (plans totals)) (refuses wrongCount)
+
 -- "The first field is the kind"
 unfoldable pub requestOf : List ℕ → Asked
 requestOf ns =
@@ -167,7 +177,8 @@ requestOf ns =
     (cond (eqb (numberAt ns 0) 2) (tickLine ns)
     (cond (eqb (numberAt ns 0) 3) (reportLine ns)
     (cond (eqb (numberAt ns 0) 4) (commandLine ns)
-    (cond (eqb (numberAt ns 0) 5) (pointsLine ns) (cond (eqb (numberAt ns 0) 6) (zonesLine ns) (refuses unknownKind))))))
+    (cond (eqb (numberAt ns 0) 5) (pointsLine ns)
+    (cond (eqb (numberAt ns 0) 6) (zonesLine ns) (cond (eqb (numberAt ns 0) totalsKind) (totalsLine ns) (refuses unknownKind)))))))
 
 -- the numbers of a line of points or zones, which are the first of these
 abbrev pub listLine : ℕ → List ℕ → List ℕ
@@ -185,6 +196,7 @@ otherAsks ns (Refused n) = refuses n
 otherAsks ns (Opens o) = asks (opens o)
 otherAsks ns Points = asks (plans (points (listFloats (listLine pointNumbers ns))))
 otherAsks ns Zones = asks (plans (zones (listFloats (listLine zoneNumbers ns))))
+otherAsks ns Totals = asks (plans totals)
 
 -- what each case of `Kind` asks
 abbrev pub kindAsks : List ℕ → Kind → Asked
@@ -197,6 +209,7 @@ Listed (Refused n) ns = Unit
 Listed (Opens o) ns = Unit
 Listed Points ns = listFields pointNumbers ns ≤ length ns
 Listed Zones ns = listFields zoneNumbers ns ≤ length ns
+Listed Totals ns = Unit
 
 abbrev pub KindListed : Kind → List ℕ → Type 0
 KindListed (Flight call) ns = Unit

@@ -4,7 +4,7 @@ ghost use Prim.Native.Nat.{_+_, _<_, _≤_};
 ghost use lib.ListN.{length};
 ghost use Rattle.falcon_guidance.specs.State.{zoneNumbers};
 ghost use Rattle.requests.specs.Kinds.{floatAt, isFlag, flagAt, pointFrom, openingFields, openingFrom, openingLine, tickFields, readingFrom, batteryOk, tickFrom, tickOk, tickLine};
-ghost use Rattle.requests.specs.Kinds.{reportLine, commandLine, isList, pointsLine, zonesLine, requestOf, Says};
+ghost use Rattle.requests.specs.Kinds.{reportLine, commandLine, isList, pointsLine, zonesLine, totalsLine, requestOf, Says};
 use falcon_core::calls::Answer;
 use falcon_failsafe::flight::Opening;
 use falcon_guidance::state::Point;
@@ -38,6 +38,7 @@ pub enum OtherCall {
     Opens(Opening),
     Points,
     Zones,
+    Totals,
 }
 
 impl Kind {
@@ -49,6 +50,8 @@ impl Kind {
     pub const REPORT_FIELDS: usize = 2;
 
     pub const COMMAND_FIELDS: usize = 4;
+
+    pub const TOTALS_FIELDS: usize = 1;
     // The fields before the points or zones of a line: the kind, and how many follow.
     pub const LIST_HEAD: usize = 2;
 }
@@ -256,6 +259,16 @@ fn zones_line(ns: &[u32]) -> Kind
     Kind::Other(OtherCall::Refused(Answer::WRONG_COUNT))
 }
 
+// A line of kind 7.
+fn totals_line(ns: &[u32]) -> Kind
+    ensures { λ r. ⌜ Says r (now (ns .entry)) (totalsLine (now (ns .entry))) ⌝ }
+{
+    if ns.len() != Kind::TOTALS_FIELDS {
+        return Kind::Other(OtherCall::Refused(Answer::WRONG_COUNT));
+    }
+    Kind::Other(OtherCall::Totals)
+}
+
 // What the numbers of a line ask, by its kind.
 pub(crate) fn kind_of(ns: &[u32]) -> Kind
     requires { ⌜ 0 < length (now ns) ⌝ }
@@ -279,6 +292,9 @@ pub(crate) fn kind_of(ns: &[u32]) -> Kind
     }
     if kind == 6 {
         return zones_line(ns);
+    }
+    if kind == 7 {
+        return totals_line(ns);
     }
     Kind::Other(OtherCall::Refused(Answer::UNKNOWN_KIND))
 }

@@ -6,17 +6,21 @@ ghost use Rattle.requests.specs.ByLine.{needFields, needOf};
 use columns::field::FIELD;
 use columns::field::read_kind;
 use falcon_core::calls::Answer;
+use falcon_totals::DayTotals;
 
-// The bytes of an answer.
-const ANSWER: usize = FIELD * Answer::FIELDS;
+// The fields of an answer with the totals.
+pub const TOTALS_ANSWER: usize = Answer::FIELDS + DayTotals::FIELDS;
 
 // The bytes that the answer to a line of any kind needs at most.
-const MOST_NEED: usize = ANSWER;
+const MOST_NEED: usize = FIELD * TOTALS_ANSWER;
 
 // How many fields the answer to a line of this kind needs.
 fn need_fields(kind: u64) -> usize
     ensures { λ r. ⌜ r ≡ needFields (inRange kind) ⌝ }
 {
+    if kind == 7 {
+        return TOTALS_ANSWER;
+    }
     Answer::FIELDS
 }
 

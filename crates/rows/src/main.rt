@@ -10,6 +10,8 @@ use columns::field::FIELD;
 use columns::field::FieldRead;
 use columns::field::read_field_of;
 use falcon_core::supervisor::Supervisor;
+use falcon_failsafe::flight::Opening;
+use falcon_guidance::state::Point;
 use libc::STDIN_FILENO;
 use libc::STDOUT_FILENO;
 use sheet::entry::answer;
@@ -81,14 +83,39 @@ fn replay_all(head: &mut [u8], sheet: &mut [u8], out: &mut [u8]) {
     }
 }
 
-// Refusal 9's example, a buffer of 109 bytes: its number, and the buffer as it was.
-fn short_buffer() {
-    let mut out = [b'?'; 109];
-    let answered = answer(Supervisor::new(), b"12", &mut out);
+// Answers a line, and prints its refusal and the whole buffer.
+fn print_answer(s: Supervisor, line: &[u8], out: &mut [u8]) {
+    let answered = answer(s, line, out);
     io::print_decimal(STDOUT_FILENO, answered.refusal as u64);
     io::write_all(STDOUT_FILENO, b"\n");
-    io::write_all(STDOUT_FILENO, &out);
+    io::write_all(STDOUT_FILENO, out);
     io::write_all(STDOUT_FILENO, b"\n");
+}
+
+// Refusal 9's example: a buffer of 109 bytes stays as it was.
+fn short_buffer() {
+    let mut out = [b'?'; 109];
+    print_answer(Supervisor::new(), b"12", &mut out);
+}
+
+// A line of kind 7: a buffer of 208 bytes stays as it was, of 209 a refused answer takes 110, and of 212 an accepted one takes 209.
+fn totals_buffers() {
+    let line = b"          7";
+    let mut short = [b'?'; 208];
+    print_answer(Supervisor::new(), line, &mut short);
+    let mut refused = [b'?'; 209];
+    print_answer(Supervisor::new(), line, &mut refused);
+    let opened = Supervisor::new().opening(Opening {
+        home: Point::origin(),
+        fence_radius: 100.0,
+        cruise_alt: 10.0,
+        low_batt_v: 14.0,
+        required: 0,
+        passed: 0,
+        calibration_configured: false,
+    });
+    let mut accepted = [b'?'; 212];
+    print_answer(opened.supervisor, line, &mut accepted);
 }
 
 fn main() {
@@ -96,5 +123,6 @@ fn main() {
     let mut sheet = buffer();
     let mut out = buffer();
     short_buffer();
+    totals_buffers();
     replay_all(&mut head, &mut sheet, &mut out);
 }

@@ -2,9 +2,11 @@
 use Prim.Native.Nat.{ℕ, zero, suc, _+_, _≤_}
 use native.Mathlib.Omega.{arith}
 use mathlib.Core.Path.{_≡_, refl, sym, ap, _∙_}
-use mathlib.Core.Bool.{Bool}
-use mathlib.Core.List.{List, [], _∷_, _++_}
-use lib.ListN.{length, take, getD, length-append}
+use mathlib.Core.Bool.{Bool, true, false, cond}
+use mathlib.Core.List.{List, [], _∷_, _++_, append-assoc}
+use lib.ListN.{length, take, drop, getD, length-append}
+use lib.Seq.{take-append-seam}
+use lib.Dec.{eqb}
 use Rattle.falcon_guidance.specs.declared.state.Point.{Point}
 use Rattle.falcon_guidance.specs.declared.state.Legs.{Legs}
 use Rattle.falcon_failsafe.specs.declared.flight.FlightSupervisor.{FlightSupervisor}
@@ -13,22 +15,25 @@ use Rattle.falcon_core.specs.declared.calls.Answer.{Answer}
 use Rattle.falcon_core.specs.declared.calls.Answered.{Answered}
 use Rattle.falcon_core.specs.declared.calls.FlightAnswered.{FlightAnswered}
 use Rattle.relay_fsm.specs.declared.Event.{Event}
-use Rattle.falcon_core.specs.Calls.{answerFields, numbersOf, reports, commands, legsIn, flightAfter, outputOf, noLegs, flightStepOf, besideOf, stepOf}
+use Rattle.falcon_core.specs.Calls.{answerFields, numbersOf, reports, commands, isReport, sequenceRefusal, legsIn, flightAfter, outputOf, reportDueAfter, answerOf, flightRefusedOf, flightAcceptedOf, noLegs, flightStepOf, besideOf, stepOf}
 use Rattle.falcon_core.proofs.FlightCalls.{tick-beside, report-beside, command-beside}
 use Rattle.falcon_core.proofs.Numbers.{numbers-count}
 use Rattle.requests.specs.declared.kinds.FlightCall.{FlightCall}
 use Rattle.requests.specs.declared.kinds.FlightCall.the-variants.{Ticks, Reports, Commands}
 use Rattle.requests.specs.Kinds.{flightAsks}
-use Rattle.requests.specs.ByLine.{replyNumbers}
-use Rattle.requests.proofs.Buffer.{reply-ten}
+use Rattle.requests.specs.ByLine.{totalsAnswer, replyNumbers}
+use Rattle.falcon_core.specs.declared.calls.Output.the-variants.{Totals}
+use Rattle.falcon_totals.specs.declared.DayTotals.{DayTotals}
+use Rattle.falcon_totals.specs.Totals.{totalFields, totalsNumbers}
+use Rattle.columns.specs.Field.{put}
+use Rattle.requests.proofs.Buffer.{reply-ten, reply-totals}
 use Rattle.sheet.specs.declared.entry.FlightReplied.{FlightReplied}
 use Rattle.sheet.specs.declared.entry.LineAnswered.{LineAnswered}
 use Rattle.sheet.specs.Entry.{lineAnswered, Replied, FlightLeft}
-use Rattle.sheet.proofs.Floats.{take-front}
 
 -- the state of its parts
-abbrev pub stateOf : FlightSupervisor → List Point → Bool → Bool → Supervisor
-stateOf f ps opened due = record { flight = f; waypoints = ps; opened = opened; «report_due» = due }
+abbrev pub stateOf : FlightSupervisor → List Point → Bool → Bool → DayTotals → Supervisor
+stateOf f ps opened due t = record { flight = f; waypoints = ps; opened = opened; «report_due» = due; totals = t }
 
 -- ---- an answer's ten numbers at the front of an array
 
@@ -36,17 +41,41 @@ pub front-ten : (a : Answer) (ns d : List ℕ) → ns ≡ numbersOf a ++ d → t
 front-ten a ns d e =
     ap (take answerFields) e
     ∙ ap (λ (n : ℕ). take n (numbersOf a ++ d)) (sym (numbers-count a))
-    ∙ take-front (numbersOf a) d
+    ∙ take-append-seam (numbersOf a) d
 
 front-long : (a : Answer) (ns d : List ℕ) → ns ≡ numbersOf a ++ d → answerFields ≤ length ns
 front-long a ns d e = omega (arith, ap length e, length-append (numbersOf a) d, numbers-count a)
 
-pub replied-ten : (a : Answered) (ns d : List ℕ) → ns ≡ numbersOf (a .answer) ++ d → Replied a (a .supervisor) ns answerFields
-replied-ten a ns d e =
+-- an answer without the totals
+pub replied-ten : (a : Answered) (ns d : List ℕ) → (a .answer .output ≡ Totals → ⊥) → ns ≡ numbersOf (a .answer) ++ d → Replied a (a .supervisor) ns answerFields
+replied-ten a ns d o e =
     record {
       state = refl;
-      numbers = front-ten (a .answer) ns d e ∙ reply-ten a;
+      numbers = front-ten (a .answer) ns d e ∙ reply-ten a o;
       among = front-long (a .answer) ns d e;
+    }
+
+-- an answer with the totals behind its ten numbers
+totals-count : (t : DayTotals) → length (totalsNumbers t) ≡ totalFields
+unfolding totalsNumbers
+totals-count t = refl
+
+pub replied-totals :
+    (a : Answered) (ns ms d : List ℕ) →
+    a .answer .output ≡ Totals →
+    ns ≡ numbersOf (a .answer) ++ d →
+    ms ≡ put ns answerFields (totalsNumbers (a .supervisor .totals)) →
+    Replied a (a .supervisor) ms totalsAnswer
+unfolding put
+replied-totals a ns ms d o e q =
+    let t : List ℕ = totalsNumbers (a .supervisor .totals) in
+    let rest : List ℕ = drop (answerFields + length t) ns in
+    let is : ms ≡ (numbersOf (a .answer) ++ t) ++ rest = q ∙ ap (λ (l : List ℕ). l ++ (t ++ rest)) (front-ten (a .answer) ns d e) ∙ sym (append-assoc (numbersOf (a .answer)) t rest) in
+    let long : length (numbersOf (a .answer) ++ t) ≡ totalsAnswer = omega (arith, length-append (numbersOf (a .answer)) t, numbers-count (a .answer), totals-count (a .supervisor .totals)) in
+    record {
+      state = refl;
+      numbers = ap (take totalsAnswer) is ∙ ap (λ (n : ℕ). take n ((numbersOf (a .answer) ++ t) ++ rest)) (sym long) ∙ take-append-seam (numbersOf (a .answer) ++ t) rest ∙ reply-totals a o;
+      among = omega (arith, ap (λ (l : List ℕ). length l) is, length-append (numbersOf (a .answer) ++ t) rest, long);
     }
 
 -- the same of equal parts
@@ -78,6 +107,17 @@ pub command-legs :
 unfolding flightStepOf flightAfter outputOf
 command-legs f opened due l ev level low = refl
 
+-- no answer of theirs has the totals
+flight-ten : (f : FlightSupervisor) (opened due : Bool) (l : Legs) (call : FlightCall) → flightStepOf f opened due l (flightAsks call) .answer .output ≡ Totals → ⊥
+unfolding flightStepOf flightAcceptedOf flightRefusedOf answerOf outputOf
+flight-ten f opened due l call = go (eqb (sequenceRefusal opened due (isReport (flightAsks call))) 0) call
+  where
+    go : (b : Bool) (k : FlightCall) → cond b (flightAcceptedOf (flightAfter f l (flightAsks k)) (reportDueAfter (outputOf f l (flightAsks k))) (outputOf f l (flightAsks k))) (flightRefusedOf f due (sequenceRefusal opened due (isReport (flightAsks call)))) .answer .output ≡ Totals → ⊥
+    go false k e = let z : _≡_ {A = ℕ} 0 1 = cc in absurd (omega arith)
+    go true (Ticks t) e = let z : _≡_ {A = ℕ} 0 1 = cc in absurd (omega arith)
+    go true (Reports failed) e = let z : _≡_ {A = ℕ} 0 1 = cc in absurd (omega arith)
+    go true (Commands ev level low) e = let z : _≡_ {A = ℕ} 0 1 = cc in absurd (omega arith)
+
 module _ (s : Supervisor) where
   abbrev parts : FlightCall → FlightAnswered
   parts call = flightStepOf (s .flight) (s .opened) (s .«report_due») (legsIn s) (flightAsks call)
@@ -92,15 +132,15 @@ module _ (s : Supervisor) where
   -- the flight's entry leaves the waypoints
   pub replied-flight :
       (call : FlightCall) (r : FlightReplied) (ns : List ℕ) →
-      FlightLeft (parts call) r ns →
+      FlightLeft (s .flight) (s .totals) (parts call) r ns →
       answerFields ≤ length ns →
-      Replied (stepOf s (flightAsks call)) (stateOf (r .flight) (s .waypoints) (s .opened) (r .«report_due»)) ns answerFields
+      Replied (stepOf s (flightAsks call)) (stateOf (r .flight) (s .waypoints) (s .opened) (r .«report_due») (r .totals)) ns answerFields
   replied-flight call r ns h room =
-      let left : stateOf (r .flight) (s .waypoints) (s .opened) (r .«report_due») ≡ besideOf s (parts call) .supervisor =
-      λ i. record { flight = h .flight i; waypoints = s .waypoints; opened = s .opened; «report_due» = h .due i } in
+      let left : stateOf (r .flight) (s .waypoints) (s .opened) (r .«report_due») (r .totals) ≡ besideOf s (parts call) .supervisor =
+      λ i. stateOf (h .flight i) (s .waypoints) (s .opened) (h .due i) (h .totals i) in
       record {
         state = left ∙ ap (λ (x : Answered). x .supervisor) (call-beside call);
-        numbers = h .numbers ∙ reply-ten (besideOf s (parts call)) ∙ ap replyNumbers (call-beside call);
+        numbers = h .numbers ∙ reply-ten (besideOf s (parts call)) (flight-ten (s .flight) (s .opened) (s .«report_due») (legsIn s) call) ∙ ap replyNumbers (call-beside call);
         among = room;
       }
 

@@ -5,7 +5,9 @@ use native.Mathlib.Nat.{not-suc-le-zero, le-of-suc-le-suc}
 use mathlib.Core.Path.{_≡_, refl, sym, ap, _∙_}
 use mathlib.Core.List.{List, [], _∷_, _++_, map}
 use lib.ListN.{length, getD, take, drop, set, length-drop, length-map}
-use lib.Seq.{length-take-le}
+use lib.Seq.{length-take-le, take-suc, take-append-seam}
+use Rattle.columns.specs.Field.{put}
+use Rattle.columns.proofs.Writing.{put-more}
 use Rattle.columns.proofs.LineTurns.{slice-take}
 use Rattle.requests.specs.Kinds.{listHead}
 
@@ -22,21 +24,13 @@ module _ {A : Type 0} (f : ℕ → A) where
   mapped-next (n ∷ ns) (x ∷ d) (suc i) h k =
       ap {B = List A} (λ l. f n ∷ l) (mapped-next ns d i (le-of-suc-le-suc h) (le-of-suc-le-suc k))
 
--- one number more copied
-pub copied-next :
-    (ns d : List ℕ) (i : ℕ) →
-    i < length ns →
-    length ns ≤ length d →
-    set (take i ns ++ drop i d) i (getD ns i 0) ≡ take (suc i) ns ++ drop (suc i) d
-copied-next [] d i h k = absurd (not-suc-le-zero h)
-copied-next (n ∷ ns) [] i h k = absurd (not-suc-le-zero k)
-copied-next (n ∷ ns) (x ∷ d) zero h k = refl
-copied-next (n ∷ ns) (x ∷ d) (suc i) h k = ap {B = List ℕ} (λ l. n ∷ l) (copied-next ns d i (le-of-suc-le-suc h) (le-of-suc-le-suc k))
-
--- a list in front of another
-pub take-front : {A : Type 0} (l r : List A) → take (length l) (l ++ r) ≡ l
-take-front [] r = refl
-take-front {A} (x ∷ l) r = ap {B = List A} (λ q. x ∷ q) (take-front l r)
+-- one number more put
+pub put-next : (ns d : List ℕ) (at i : ℕ) → i < length ns → at + length ns ≤ length d → set (put d at (take i ns)) (at + i) (getD ns i 0) ≡ put d at (take (suc i) ns)
+put-next ns d at i h k =
+    let long : length (take i ns) ≡ i = length-take-le i ns (omega arith) in
+    ap (λ (n : ℕ). set (put d at (take i ns)) (at + n) (getD ns i 0)) (sym long)
+    ∙ put-more d at (take i ns) (getD ns i 0) (omega (arith, long))
+    ∙ ap (put d at) (sym (take-suc ns i 0 h))
 
 -- so many floats, read from a line's part
 pub lent-is :
@@ -48,4 +42,4 @@ lent-is f ns m d last h e =
     let z : listHead + m - listHead ≡ m = omega arith in
     let q : take (listHead + m - listHead) (drop listHead ns) ≡ drop listHead (take (listHead + m) ns) = ap (λ (k : ℕ). take k (drop listHead ns)) z ∙ sym (slice-take ns listHead m (omega arith)) in
     let n : length (map f (drop listHead (take (listHead + m) ns))) ≡ m = length-map (drop listHead (take (listHead + m) ns)) f ∙ omega (arith, length-drop listHead (take (listHead + m) ns), length-take-le (listHead + m) ns h) in
-    rw (e, q) (ap (λ (k : ℕ). take k (map f (drop listHead (take (listHead + m) ns)) ++ drop (length (drop listHead (take (listHead + m) ns))) d)) (sym n) ∙ take-front (map f (drop listHead (take (listHead + m) ns))) (drop (length (drop listHead (take (listHead + m) ns))) d))
+    rw (e, q) (ap (λ (k : ℕ). take k (map f (drop listHead (take (listHead + m) ns)) ++ drop (length (drop listHead (take (listHead + m) ns))) d)) (sym n) ∙ take-append-seam (map f (drop listHead (take (listHead + m) ns))) (drop (length (drop listHead (take (listHead + m) ns))) d))

@@ -1,32 +1,38 @@
 // A call by line, with the buffer for its answer.
 ghost use mathlib.Core.Path.{_≡_};
 ghost use mathlib.Core.List.{map, _++_};
-ghost use Prim.Native.Nat.{_≤_};
+ghost use Prim.Native.Nat.{_+_, _≤_};
 ghost use lib.ListN.{length, take, drop};
 ghost use lib.Ieee.{binary32, ofBits};
 ghost use Rattle.falcon_guidance.specs.State.{pointNumbers, zoneNumbers};
+ghost use Rattle.falcon_totals.specs.Totals.{totalsNumbers};
+ghost use Rattle.columns.specs.Field.{put};
 ghost use Rattle.falcon_core.specs.Calls.{answerFields, numbersOf, plans, points, zones, flightStepOf, stepOf};
 ghost use Rattle.requests.specs.Kinds.{answeredBy, listFields, listLine, listFloats, flightAsks, otherAsks, kindAsks, Listed, KindListed};
 ghost use Rattle.requests.specs.Parse.{mostFields, askedLine};
-ghost use Rattle.requests.specs.ByLine.{lineStep, bufferAfter};
+ghost use Rattle.requests.specs.ByLine.{totalsAnswer, lineStep, bufferAfter};
 ghost use Rattle.sheet.specs.Entry.{lineAnswered, Replied, FlightLeft};
 use columns::field::write_numbers;
 use falcon_core::calls::Answer;
 use falcon_core::calls::Answered;
+use falcon_core::calls::Output;
 use falcon_core::calls::flight_command;
 use falcon_core::calls::flight_report;
 use falcon_core::calls::flight_tick;
 use falcon_core::calls::refused;
+use falcon_core::calls::totals_after;
 use falcon_core::supervisor::Supervisor;
 use falcon_failsafe::flight::FlightSupervisor;
 use falcon_guidance::legs::legs;
 use falcon_guidance::state::Legs;
 use falcon_guidance::state::Point;
 use falcon_guidance::state::Zone;
+use falcon_totals::DayTotals;
 use relay_math::from_bits;
 use requests::kinds::FlightCall;
 use requests::kinds::Kind;
 use requests::kinds::OtherCall;
+use requests::need::TOTALS_ANSWER;
 use requests::need::is_short;
 use requests::parse::MOST_FIELDS;
 use requests::parse::asked;
@@ -43,10 +49,11 @@ pub(crate) struct LineReplied {
     pub count: usize,
 }
 
-// What a tick, a report or a command leaves of the flight's part of the state; its answer has ten numbers.
+// What a tick, a report or a command leaves of the state, but for the waypoints; its answer has ten numbers.
 pub(crate) struct FlightReplied {
     pub flight: FlightSupervisor,
     pub report_due: bool,
+    pub totals: DayTotals,
 }
 
 // The numbers as floats, from the start of `floats` on.
@@ -92,17 +99,34 @@ fn zones_step(s: Supervisor, numbers: &[u32]) -> Answered
     s.set_keepout_zones(&floats[..lent])
 }
 
+// Puts these numbers into the array, from `at` on.
+fn put_numbers(numbers: &mut [u32], at: usize, part: &[u32])
+    requires { ⌜ at + length (now part) ≤ length (now numbers) ⌝ }
+    ensures { λ _. ⌜ now (numbers .exit) ≡ put (now (numbers .entry)) at (now (part .entry)) ⌝ }
+{
+    let mut i = 0;
+    while i < part.len() {
+        numbers[at + i] = part[i];
+        i += 1;
+    }
+}
+
 // The answer's numbers, at the front of the array.
 fn put_answer(numbers: &mut [u32], a: Answer)
     requires { ⌜ answerFields ≤ length (now numbers) ⌝ }
     ensures { λ _. ⌜ now (numbers .exit) ≡ numbersOf a ++ drop answerFields (now (numbers .entry)) ⌝ }
 {
     let ten = a.numbers();
-    let mut i = 0;
-    while i < Answer::FIELDS {
-        numbers[i] = ten[i];
-        i += 1;
-    }
+    put_numbers(numbers, 0, &ten);
+}
+
+// The totals, behind the ten numbers of an answer.
+fn put_totals(numbers: &mut [u32], t: DayTotals)
+    requires { ⌜ totalsAnswer ≤ length (now numbers) ⌝ }
+    ensures { λ _. ⌜ now (numbers .exit) ≡ put (now (numbers .entry)) answerFields (totalsNumbers t) ⌝ }
+{
+    let nine = t.numbers();
+    put_numbers(numbers, Answer::FIELDS, &nine);
 }
 
 // A tick, a report or a command, from the flight and the waypoints of the active leg and of the next. The array takes the answer's numbers.
@@ -110,12 +134,13 @@ pub(crate) fn answer_flight(
     f: FlightSupervisor,
     opened: bool,
     due: bool,
+    totals: DayTotals,
     legs: Legs,
     call: FlightCall,
     numbers: &mut [u32],
 ) -> FlightReplied
     requires { ⌜ answerFields ≤ length (now numbers) ⌝ }
-    ensures { λ r. ⌜ FlightLeft (flightStepOf f opened due legs (flightAsks call)) r (now (numbers .exit)) ⌝ }
+    ensures { λ r. ⌜ FlightLeft f totals (flightStepOf f opened due legs (flightAsks call)) r (now (numbers .exit)) ⌝ }
 {
     let told = match call {
         FlightCall::Ticks(t) => flight_tick(f, opened, due, legs, t),
@@ -128,10 +153,13 @@ pub(crate) fn answer_flight(
     };
     let a = told.answer;
     put_answer(numbers, a);
+    let fsm = f.fsm;
+    let began = fsm.mode;
     let flight = told.flight;
     FlightReplied {
         flight,
         report_due: told.report_due,
+        totals: totals_after(totals, began, a),
     }
 }
 
@@ -145,6 +173,7 @@ fn other_step(s: Supervisor, call: OtherCall, numbers: &[u32]) -> Answered
         OtherCall::Opens(o) => s.opening(o),
         OtherCall::Points => points_step(s, numbers),
         OtherCall::Zones => zones_step(s, numbers),
+        OtherCall::Totals => s.totals(),
     }
 }
 
@@ -157,9 +186,18 @@ pub(crate) fn answer_other(s: Supervisor, call: OtherCall, numbers: &mut [u32]) 
     let a = answered.answer;
     put_answer(numbers, a);
     let supervisor = answered.supervisor;
+    let output = a.output;
+    let Output::Totals = output else {
+        return LineReplied {
+            supervisor,
+            count: Answer::FIELDS,
+        };
+    };
+    let totals = supervisor.totals;
+    put_totals(numbers, totals);
     LineReplied {
         supervisor,
-        count: Answer::FIELDS,
+        count: TOTALS_ANSWER,
     }
 }
 
@@ -175,14 +213,17 @@ fn answer_flight_whole(s: Supervisor, call: FlightCall, numbers: &mut [u32]) -> 
         s.flight,
         s.opened,
         s.report_due,
+        s.totals,
         legs(config, waypoints, mission),
         call,
         numbers,
     );
     let flight = told.flight;
+    let totals = told.totals;
     let mut supervisor = s;
     supervisor.flight = flight;
     supervisor.report_due = told.report_due;
+    supervisor.totals = totals;
     LineReplied {
         supervisor,
         count: Answer::FIELDS,
@@ -212,7 +253,7 @@ pub(crate) fn answer_numbers(
     answer_kind(s, kind, numbers)
 }
 
-// Answers a line. Under what its kind needs, 110 bytes, nothing is written and the refusal is 9.
+// Answers a line. Under what its kind needs, 209 bytes for kind 7 and 110 for any other, nothing is written and the refusal is 9.
 pub fn answer(s: Supervisor, line: &[u8], out: &mut [u8]) -> LineAnswered
     ensures answered { λ r. ⌜ r ≡ lineAnswered (lineStep s (now (line .entry)) (now (out .entry))) ⌝ }
     ensures buffer { λ _. ⌜ now (out .exit) ≡ bufferAfter s (now (line .entry)) (now (out .entry)) ⌝ }

@@ -71,6 +71,7 @@ pub fn answer_lines(s: Supervisor, input: &[u8], out: &mut [u8]) -> Progress
     let mut waypoints = s.waypoints;
     let mut opened = s.opened;
     let mut report_due = s.report_due;
+    let mut totals = s.totals;
     let mut used = 0;
     let mut written = 0;
     let mut lines = 0;
@@ -88,9 +89,18 @@ pub fn answer_lines(s: Supervisor, input: &[u8], out: &mut [u8]) -> Progress
                 let here = waypoints[here_at];
                 let beyond = waypoints[next_at];
                 let legs = legs_from(config, mission, here, beyond);
-                let told = answer_flight(flight, opened, report_due, legs, call, &mut numbers);
+                let told = answer_flight(
+                    flight,
+                    opened,
+                    report_due,
+                    totals,
+                    legs,
+                    call,
+                    &mut numbers,
+                );
                 flight = told.flight;
                 report_due = told.report_due;
+                totals = told.totals;
             }
             Kind::Other(call) => {
                 let supervisor = Supervisor {
@@ -98,6 +108,7 @@ pub fn answer_lines(s: Supervisor, input: &[u8], out: &mut [u8]) -> Progress
                     waypoints,
                     opened,
                     report_due,
+                    totals,
                 };
                 let replied = answer_other(supervisor, call, &mut numbers);
                 let after = replied.supervisor;
@@ -105,6 +116,7 @@ pub fn answer_lines(s: Supervisor, input: &[u8], out: &mut [u8]) -> Progress
                 waypoints = after.waypoints;
                 opened = after.opened;
                 report_due = after.report_due;
+                totals = after.totals;
                 count = replied.count;
             }
         }
@@ -118,6 +130,7 @@ pub fn answer_lines(s: Supervisor, input: &[u8], out: &mut [u8]) -> Progress
         waypoints,
         opened,
         report_due,
+        totals,
     };
     Progress {
         supervisor,

@@ -1,7 +1,7 @@
 use mathlib.Core.Logic.{⊎-elim}
 use mathlib.Core.Path.{_≡_, sym, ap, _∙_}
 use Rattle.falcon_core.specs.declared.calls.FlightAnswered.{FlightAnswered}
-use Rattle.falcon_core.specs.Calls.{numbersOf, flightStepOf}
+use Rattle.falcon_core.specs.Calls.{totalsBeside, numbersOf, flightStepOf}
 use Rattle.requests.specs.declared.kinds.FlightCall.{FlightCall}
 use Rattle.requests.specs.Kinds.{flightAsks}
 use Rattle.sheet.proofs.Entries.{front-ten, report-legs, command-legs}
@@ -30,6 +30,9 @@ flight-command-requires c κs = search needs
 put-answer-requires : tie.Need-put-answer-requires
 put-answer-requires c κs = search needs
 
+totals-after-requires : tie.Need-totals-after-requires
+totals-after-requires c κs = search needs
+
 same-length : tie.Need-same-length
 same-length c = search needs
 
@@ -47,12 +50,13 @@ told-is c =
 
 returns : tie.Need-returns
 returns c =
-    let at = c .before .before .before .before .before .before in
+    let at = c .before .before .before .before .before .before .before .before in
     let told = told-is at in
     record {
       flight = ap (λ (x : FlightAnswered). x .flight) told;
       due = ap (λ (x : FlightAnswered). x .«report_due») told;
-      numbers = front-ten (at .match .told .answer) _ _ (c .before .before .before .put-answer .ensures) ∙ ap (λ (x : FlightAnswered). numbersOf (x .answer)) told;
+      totals = c .totals-after .ensures ∙ ap (λ (x : FlightAnswered). totalsBeside (at .before .before .args .totals) (at .before .before .args .f .fsm .mode) (x .answer)) told;
+      numbers = front-ten (at .match .told .answer) _ _ (c .before .before .before .before .before .put-answer .ensures) ∙ ap (λ (x : FlightAnswered). numbersOf (x .answer)) told;
     }
 
 pub answer-flight-spec : {M : Type 1} → statement M
@@ -66,5 +70,6 @@ answer-flight-spec =
     enum-known-call-3
     flight-command-requires
     put-answer-requires
+    totals-after-requires
     same-length
     returns)

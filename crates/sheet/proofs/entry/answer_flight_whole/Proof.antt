@@ -20,13 +20,13 @@ same-length c = search needs
 
 returns : tie.Need-returns
 returns c =
-    let start = c .before .before .before .before .before .before .before .before .before .before in
+    let start = c .before .before .before .before .before .before .before .before .before .before .before in
     let s = start .args .s in
-    let call = c .before .before .before .answer-flight in
-    let ns = call .last .1 .1 .1 .1 .1 .0 in
-    let left : FlightLeft (flightStepOf (s .flight) (s .opened) (s .«report_due») (legsIn s) (flightAsks (start .args .call))) (call .result) ns =
-    subst (λ (l : Legs). FlightLeft (flightStepOf (s .flight) (s .opened) (s .«report_due») l (flightAsks (start .args .call))) (call .result) ns) (c .before .before .before .before .before .legs .ensures) (call .ensures) in
-    replied-flight s (start .args .call) (call .result) ns left (omega (arith, start .pre, call .kept .1 .1 .1 .1 .1 .0))
+    let call = c .before .before .before .before .answer-flight in
+    let ns = call .last .1 .1 .1 .1 .1 .1 .0 in
+    let of : Legs → Type 0 = λ l. FlightLeft (s .flight) (s .totals) (flightStepOf (s .flight) (s .opened) (s .«report_due») l (flightAsks (start .args .call))) (call .result) ns in
+    let left : of (legsIn s) = subst of (c .before .before .before .before .before .before .legs .ensures) (call .ensures) in
+    replied-flight s (start .args .call) (call .result) ns left (omega (arith, start .pre, call .kept .1 .1 .1 .1 .1 .1 .0))
 
 pub answer-flight-whole-spec : {M : Type 1} → statement M
 answer-flight-whole-spec = tie.close (tie.spec legs-requires answer-flight-requires same-length returns)

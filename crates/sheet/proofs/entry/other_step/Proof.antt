@@ -34,6 +34,12 @@ zones-step-requires c κs =
     let pre = c .before .before .before .pre in
     (subst (λ (k : OtherCall). Listed k (c .before .before .before .args .numbers .now)) (c .enum-told2 .given .1) (pre .0), omega (arith, pre .1))
 
+enum-told-3 : tie.Need-enum-told-3
+enum-told-3 c = search needs
+
+totals-requires : tie.Need-totals-requires
+totals-requires c κs = search needs
+
 returns : tie.Need-returns
 returns c = simp (c .refused .ensures, c .before .before .call .given .1)
 
@@ -45,6 +51,9 @@ returns-3 c = simp (c .points-step .ensures, c .before .enum-told .given .1)
 
 returns-4 : tie.Need-returns-4
 returns-4 c = simp (c .zones-step .ensures, c .before .enum-told2 .given .1)
+
+returns-5 : tie.Need-returns-5
+returns-5 c = simp (c .totals .ensures, c .before .enum-told3 .given .1)
 
 pub other-step-spec : {M : Type 1} → statement M
 other-step-spec =
@@ -58,7 +67,10 @@ other-step-spec =
     points-step-requires
     enum-told-2
     zones-step-requires
+    enum-told-3
+    totals-requires
     returns
     returns-2
     returns-3
-    returns-4)
+    returns-4
+    returns-5)

@@ -29,15 +29,15 @@ use Rattle.sheet.proofs.many.answer_lines.Statement.{statement}
 use Rattle.sheet.proofs.many.answer_lines.Tie as tie
 
 abbrev Inv-loop : tie.InvT-loop
-Inv-loop input out₀ numbers₀ flight₀ waypoints₀ opened₀ report-due₀ used₀ written₀ lines₀ end₀ out numbers flight waypoints opened report-due used written lines end =
-    let s₀ = stateOf flight₀ waypoints₀ opened₀ report-due₀ in
-    let s = stateOf flight waypoints opened report-due in
+Inv-loop input out₀ numbers₀ flight₀ waypoints₀ opened₀ report-due₀ totals₀ used₀ written₀ lines₀ end₀ out numbers flight waypoints opened report-due totals used written lines end =
+    let s₀ = stateOf flight₀ waypoints₀ opened₀ report-due₀ totals₀ in
+    let s = stateOf flight waypoints opened report-due totals in
     Going afterLine replyLine s₀ input out₀ s used written lines out
     × (Fitted afterLine replyLine needOf s₀ (whole input) (length out₀) lines s written
     × (EndsFitting input used (length out₀ - written) end × ((written ≤ length out₀) × (length waypoints ≡ maxWaypoints))))
 
 abbrev μ-loop : tie.MeasureT-loop
-μ-loop input out₀ numbers₀ flight₀ waypoints₀ opened₀ report-due₀ used₀ written₀ lines₀ end₀ out numbers flight waypoints opened report-due used written lines end =
+μ-loop input out₀ numbers₀ flight₀ waypoints₀ opened₀ report-due₀ totals₀ used₀ written₀ lines₀ end₀ out numbers flight waypoints opened report-due totals used written lines end =
     length input - used
 
 next-fitting-requires : tie.Need-next-fitting-requires Inv-loop μ-loop
@@ -45,14 +45,14 @@ next-fitting-requires c κs = search needs
 
 loop-holds : tie.Need-loop-holds Inv-loop μ-loop
 loop-holds c =
-    let a = c .before .before .before .before .before .args in
+    let a = c .before .before .before .before .before .before .args in
     let z : length (a .out .now) ≡ length (a .out .now) - 0 = omega arith in (
       going-first _ _ _ _ _,
       (
         fitted-first afterLine replyLine needOf (a .s) (whole (a .input .now)) (length (a .out .now)),
         (
           subst (λ (n : ℕ). EndsFitting (a .input .now) 0 n (c .next-fitting .result)) z (c .next-fitting .ensures),
-          (omega arith, simp length-map at (c .before .before .before .before .before .good .0 .1 .1 .1 .0 .1 .0 .1)),
+          (omega arith, simp length-map at (c .before .before .before .before .before .before .good .0 .1 .1 .1 .0 .1 .0 .1)),
         ),
       ),
     )
@@ -121,29 +121,29 @@ answer-other-requires c κs =
 replied-is : (c : tie.At-match-came Inv-loop μ-loop) →
     let l = c .before .before .before .before .before .loop in
     let m = c .match in
-    let line = take (l .end - l .used) (drop (l .used) (c .before .before .before .before .before .before .before .before .before .before .before .args .input .now)) in
-    Replied (answeredBy (stateOf (l .flight) (l .waypoints) (l .opened) (l .report-due)) (askedLine line)) (stateOf (m .flight) (m .waypoints) (m .opened) (m .report-due)) (m .numbers) (m .count)
+    let line = take (l .end - l .used) (drop (l .used) (c .before .before .before .before .before .before .before .before .before .before .before .before .args .input .now)) in
+    Replied (answeredBy (stateOf (l .flight) (l .waypoints) (l .opened) (l .report-due) (l .totals)) (askedLine line)) (stateOf (m .flight) (m .waypoints) (m .opened) (m .report-due) (m .totals)) (m .numbers) (m .count)
     × ((length (m .numbers) ≡ mostFields) × (length (m .waypoints) ≡ maxWaypoints))
 replied-is c =
     let l = c .before .before .before .before .before .loop in
     let m = c .match in
-    let line = take (l .end - l .used) (drop (l .used) (c .before .before .before .before .before .before .before .before .before .before .before .args .input .now)) in
-    let s = stateOf (l .flight) (l .waypoints) (l .opened) (l .report-due) in
+    let line = take (l .end - l .used) (drop (l .used) (c .before .before .before .before .before .before .before .before .before .before .before .before .args .input .now)) in
+    let s = stateOf (l .flight) (l .waypoints) (l .opened) (l .report-due) (l .totals) in
     let asked = c .before .asked in
     let long = l .inv .1 .1 .1 .1 in
     elim (m .came) [
       | inl w ↦
           let call = w .1 .given .0 .0 in
           let told = w .11 in
-          let ns = told .last .1 .1 .1 .1 .1 .0 in
-          let of : FlightAnswered → Type 0 = λ a. FlightLeft a (told .result) ns in
+          let ns = told .last .1 .1 .1 .1 .1 .1 .0 in
+          let of : FlightAnswered → Type 0 = λ a. FlightLeft (l .flight) (l .totals) a (told .result) ns in
           let legs = legs-are (l .waypoints) long (l .flight .config) (l .flight .mission) (w .5 .result) (w .6 .result) (w .9 .result) (w .5 .ensures) (w .6 .ensures) (w .9 .ensures) in
           let left = subst (λ (x : Legs). of (flightStepOf (l .flight) (l .opened) (l .report-due) x (flightAsks call))) legs (told .ensures) in
           let is = sym (ap (kindAsks (asked .last .1 .0)) (w .1 .given .1)) ∙ asked .ensures .0 .0 in
-          let wide : length ns ≡ mostFields = told .kept .1 .1 .1 .1 .1 .0 ∙ asked .ensures .1 .0 in (
+          let wide : length ns ≡ mostFields = told .kept .1 .1 .1 .1 .1 .1 .0 ∙ asked .ensures .1 .0 in (
             replied-as _ (answeredBy s (askedLine line)) _ _ ns (m .numbers) answerFields (m .count) (replied-flight s call (told .result) ns left (omega (arith, wide))) (ap (answeredBy s) is)
-                (λ i. stateOf (w .15 i) (w .16 i) (w .17 i) (w .18 i)) (w .14) (w .19),
-            (ap (λ (x : List ℕ). length x) (w .14) ∙ wide, ap (λ (x : List Point). length x) (w .16) ∙ long),
+                (λ i. stateOf (w .16 i) (w .17 i) (w .18 i) (w .19 i) (w .20 i)) (w .15) (w .21),
+            (ap (λ (x : List ℕ). length x) (w .15) ∙ wide, ap (λ (x : List Point). length x) (w .17) ∙ long),
           )
       | inr w ↦
           let other = w .4 in
@@ -151,8 +151,8 @@ replied-is c =
           let is = sym (ap (kindAsks (asked .last .1 .0)) (w .1 .given .1)) ∙ asked .ensures .0 .0 in
           let wide : length ns ≡ mostFields = other .kept .1 .1 .0 ∙ asked .ensures .1 .0 in (
             replied-as _ (answeredBy s (askedLine line)) _ _ ns (m .numbers) (other .result .count) (m .count) (other .ensures) (ap (answeredBy s) is)
-                (λ i. stateOf (w .10 i) (w .11 i) (w .12 i) (w .13 i)) (w .9) (w .14),
-            (ap (λ (x : List ℕ). length x) (w .9) ∙ wide, ap (λ (x : List Point). length x) (w .11) ∙ (simp length-map at (other .ok .1 .1 .0 .1 .1 .1 .0 .1 .0 .1))),
+                (λ i. stateOf (w .11 i) (w .12 i) (w .13 i) (w .14 i) (w .15 i)) (w .10) (w .16),
+            (ap (λ (x : List ℕ). length x) (w .10) ∙ wide, ap (λ (x : List Point). length x) (w .12) ∙ (simp length-map at (other .ok .1 .1 .0 .1 .1 .1 .0 .1 .0 .1))),
           )
     ]
 
@@ -168,15 +168,15 @@ write-reply-requires : tie.Need-write-reply-requires Inv-loop μ-loop
 write-reply-requires c κs =
     let l = c .before .before .before .before .before .before .before .loop in
     let h = c .before .before .before .before .before .before .loop-test .taken in
-    let line = take (l .end - l .used) (drop (l .used) (c .before .before .before .before .before .before .before .before .before .before .before .before .before .args .input .now)) in
-    let s = stateOf (l .flight) (l .waypoints) (l .opened) (l .report-due) in
+    let line = take (l .end - l .used) (drop (l .used) (c .before .before .before .before .before .before .before .before .before .before .before .before .before .before .args .input .now)) in
+    let s = stateOf (l .flight) (l .waypoints) (l .opened) (l .report-due) (l .totals) in
     omega (arith, reply-room s line _ (replied-is (c .before .before) .0 .numbers), l .inv .1 .1 .0 .fits h, l .inv .0 .long, l .inv .1 .1 .1 .0)
 
 add-lines : tie.Need-add-lines Inv-loop μ-loop
 add-lines c =
     let l = c .before .before .before .before .before .before .before .before .before .before .loop in
     let h = c .before .before .before .before .before .before .before .before .before .loop-test .taken in
-    let start = c .before .before .before .before .before .before .before .before .before .before .before .before .before .before .before .before in
+    let start = c .before .before .before .before .before .before .before .before .before .before .before .before .before .before .before .before .before in
     omega (arith, l .inv .0 .most, going-more _ _ _ _ _ _ _ _ _ _ _ (l .inv .0) (l .inv .1 .1 .0 .found h) h, whole-most (start .args .input .now), start .good .1 .0 .0)
 
 sub-next-fitting : tie.Need-sub-next-fitting Inv-loop μ-loop
@@ -184,8 +184,8 @@ sub-next-fitting c =
     let l = c .before .before .before .before .before .before .before .before .before .before .loop in
     let h = c .before .before .before .before .before .before .before .before .before .loop-test .taken in
     let call = c .before .before .write-reply in
-    let line = take (l .end - l .used) (drop (l .used) (c .before .before .before .before .before .before .before .before .before .before .before .before .before .before .before .before .args .input .now)) in
-    let s = stateOf (l .flight) (l .waypoints) (l .opened) (l .report-due) in
+    let line = take (l .end - l .used) (drop (l .used) (c .before .before .before .before .before .before .before .before .before .before .before .before .before .before .before .before .before .args .input .now)) in
+    let s = stateOf (l .flight) (l .waypoints) (l .opened) (l .report-due) (l .totals) in
     omega (arith, call .ensures .0, reply-room s line _ (replied-is (c .before .before .before .before .before) .0 .numbers), l .inv .1 .1 .0 .fits h, l .inv .0 .long, l .inv .1 .1 .1 .0, call .kept .1 .0)
 
 next-fitting-requires-2 : tie.Need-next-fitting-requires-2 Inv-loop μ-loop
@@ -197,14 +197,14 @@ loop-less c = omega (arith, c .before .before .before .before .before .before .b
 loop-again : tie.Need-loop-again Inv-loop μ-loop
 unfolding afterLine
 loop-again c =
-    let a = c .before .before .before .before .before .before .before .before .before .before .before .before .before .before .before .before .before .args in
+    let a = c .before .before .before .before .before .before .before .before .before .before .before .before .before .before .before .before .before .before .args in
     let l = c .before .before .before .before .before .before .before .before .before .before .before .loop in
     let h = c .before .before .before .before .before .before .before .before .before .before .loop-test .taken in
     let m = c .before .before .before .before .before .before .match in
     let call = c .before .before .before .write-reply in
     let line = take (l .end - l .used) (drop (l .used) (a .input .now)) in
-    let s = stateOf (l .flight) (l .waypoints) (l .opened) (l .report-due) in
-    let t = stateOf (m .flight) (m .waypoints) (m .opened) (m .report-due) in
+    let s = stateOf (l .flight) (l .waypoints) (l .opened) (l .report-due) (l .totals) in
+    let t = stateOf (m .flight) (m .waypoints) (m .opened) (m .report-due) (m .totals) in
     let ends = l .inv .1 .1 .0 in
     let replied = replied-is (c .before .before .before .before .before .before) in
     let is = replied .0 .numbers in
@@ -230,9 +230,9 @@ same-length c = search needs
 
 returns : tie.Need-returns Inv-loop μ-loop
 returns c =
-    let a = c .before .before .before .before .before .before .before .args in
+    let a = c .before .before .before .before .before .before .before .before .args in
     let l = c .before .loop in
-    let s = stateOf (l .flight) (l .waypoints) (l .opened) (l .report-due) in
+    let s = stateOf (l .flight) (l .waypoints) (l .opened) (l .report-due) (l .totals) in
     let g = l .inv .0 in
     let all =
     fits-last afterLine replyLine needOf (a .s) (a .input .now) (a .out .now) s (l .used) (l .written) (l .lines) (l .out) g (l .inv .1 .0)

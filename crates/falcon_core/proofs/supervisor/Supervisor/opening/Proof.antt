@@ -17,12 +17,17 @@ no-points-requires c = search needs
 opened-requires : tie.Need-opened-requires
 opened-requires c = search needs
 
+new-requires : tie.Need-new-requires
+new-requires c = search needs
+
 accepted-requires : tie.Need-accepted-requires
 accepted-requires c = search needs
 
 returns-2 : tie.Need-returns-2
-returns-2 c = c .accepted .ensures ∙ opening-accepted (c .before .before .before .before .before .before .args .self) (c .before .before .before .before .before .before .args .o) _ _ (c .before .opened .ensures) (c .before .before .no-points .ensures) (c .before .before .before .if1 .left)
+returns-2 c =
+    let a = c .before .before .before .before .before .before .before .args in
+    c .accepted .ensures ∙ opening-accepted (a .self) (a .o) _ _ _ (c .before .before .opened .ensures) (c .before .before .before .no-points .ensures) (c .before .new .ensures) (c .before .before .before .before .if1 .left)
 
 pub opening-spec : {M : Type 1} → statement M
 opening-spec =
-    tie.close (tie.spec refused-requires returns no-points-requires opened-requires accepted-requires returns-2)
+    tie.close (tie.spec refused-requires returns no-points-requires opened-requires new-requires accepted-requires returns-2)

@@ -1,0 +1,15 @@
+use borrow.Author.Needs.{needs}
+use Rattle.falcon_core.proofs.calls.totals_after.Statement.{statement}
+use Rattle.falcon_core.proofs.calls.totals_after.Tie as tie
+
+is-tick-requires : tie.Need-is-tick-requires
+is-tick-requires c κs = search needs
+
+counted-requires : tie.Need-counted-requires
+counted-requires c κs = search needs
+
+returns : tie.Need-returns
+returns c = simp (c .counted .ensures, c .before .is-tick .ensures)
+
+pub totals-after-spec : {M : Type 1} → statement M
+totals-after-spec = tie.close (tie.spec is-tick-requires counted-requires returns)

@@ -1,0 +1,82 @@
+-- After i turns the first i numbers are there.
+use Prim.Native.Nat.{_≤_, _-_}
+use native.Mathlib.Omega.{arith}
+use native.Mathlib.Numerals.{add-one}
+use mathlib.Core.Path.{_≡_, refl, sym, ap, _∙_}
+use lib.ListN.{length, take, length-set}
+use lib.Seq.{take-all}
+use Rattle.columns.specs.Field.{put}
+use Rattle.columns.proofs.Writing.{put-none}
+use Rattle.sheet.proofs.Floats.{put-next}
+use borrow.Author.Needs.{needs}
+use Rattle.sheet.proofs.entry.put_numbers.Statement.{statement}
+use Rattle.sheet.proofs.entry.put_numbers.Tie as tie
+
+abbrev Inv-loop : tie.InvT-loop
+Inv-loop numbers₀ at part i₀ numbers i =
+    (i ≤ length part) × ((numbers ≡ put numbers₀ at (take i part)) × (length numbers ≡ length numbers₀))
+
+abbrev μ-loop : tie.MeasureT-loop
+μ-loop numbers₀ at part i₀ numbers i = length part - i
+
+loop-holds : tie.Need-loop-holds Inv-loop μ-loop
+loop-holds c = (search needs, (sym (put-none _ _), refl))
+
+mul-numbers : tie.Need-mul-numbers Inv-loop μ-loop
+mul-numbers c = search needs
+
+shared-slice-read-numbers : tie.Need-shared-slice-read-numbers Inv-loop μ-loop
+shared-slice-read-numbers c = search needs
+
+add-numbers : tie.Need-add-numbers Inv-loop μ-loop
+add-numbers c = search needs
+
+mul-numbers-2 : tie.Need-mul-numbers-2 Inv-loop μ-loop
+mul-numbers-2 c = search needs
+
+slice-write-numbers : tie.Need-slice-write-numbers Inv-loop μ-loop
+slice-write-numbers c = omega (arith, c .before .loop-test .taken, c .before .before .loop .inv .1 .1, c .before .before .before .pre)
+
+add-i : tie.Need-add-i Inv-loop μ-loop
+add-i c = search needs
+
+loop-less : tie.Need-loop-less Inv-loop μ-loop
+loop-less c = search needs
+
+loop-again : tie.Need-loop-again Inv-loop μ-loop
+loop-again c =
+    let l = c .before .before .loop in
+    let a = c .before .before .before .args in (
+      search needs,
+      (
+        simp (add-one (l .i), l .inv .1 .0, put-next (a .part .now) (a .numbers .now) (a .at) (l .i) (c .before .loop-test .taken) (c .before .before .before .pre)),
+        simp length-set (l .inv .1 .1),
+      ),
+    )
+
+same-length : tie.Need-same-length Inv-loop μ-loop
+same-length c = c .before .loop .inv .1 .1
+
+returns : tie.Need-returns Inv-loop μ-loop
+returns c =
+    let l = c .before .loop in
+    let a = c .before .before .args in
+    l .inv .1 .0 ∙ ap (put (a .numbers .now) (a .at)) (take-all (l .i) (a .part .now) (omega (arith, c .loop-test .left)))
+
+pub put-numbers-spec : {M : Type 1} → statement M
+put-numbers-spec =
+    tie.close
+    (tie.spec
+    Inv-loop
+    μ-loop
+    loop-holds
+    mul-numbers
+    shared-slice-read-numbers
+    add-numbers
+    mul-numbers-2
+    slice-write-numbers
+    add-i
+    loop-less
+    loop-again
+    same-length
+    returns)
