@@ -96,7 +96,7 @@ fn before_opening(g: &mut Generator) -> Step {
     g.command(event::ARM)?;
     g.points(&[])?;
     g.zones(&[])?;
-    g.bytes(b"          7")?;
+    g.line(b"          7")?;
     g.bytes(b"12")
 }
 
@@ -202,13 +202,18 @@ impl TickLine {
 }
 
 impl Generator<'_> {
-    /// Write a line and take its answer.
+    /// Write a line of a day.
     pub fn bytes(&mut self, line: &[u8]) -> Step {
+        self.written += 1;
+        self.line(line)
+    }
+
+    /// Write a line and take its answer.
+    fn line(&mut self, line: &[u8]) -> Step {
         if self.left == 0 {
             return Err(End::Enough);
         }
         self.left -= 1;
-        self.written += 1;
         let answer = self.shuttle.answer(line);
         if answer[0] == 0 && self.shuttle.report_due() {
             self.setpoint = [answer[5], answer[6], answer[7]].map(f32::from_bits);
@@ -243,7 +248,7 @@ impl Generator<'_> {
     /// A line of kind 7, damaged as often as others are.
     fn totals(&mut self) -> Step {
         let line = damage::totals(&mut self.totals, self.damage_one_in);
-        self.bytes(&line)
+        self.line(&line)
     }
 
     /// An opening, every other time behind a line of kind 7: it sets the totals to zero.
@@ -289,7 +294,7 @@ impl Generator<'_> {
         self.numbers(&numbers)
     }
 
-    /// Lines so far.
+    /// Lines of the days so far, those of kind 7 left out.
     pub fn written(&self) -> usize {
         self.written
     }
