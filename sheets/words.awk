@@ -2,7 +2,7 @@
 # Positions are metres north, east and up of the origin; the time is the sum of the ticks' dt since the last opening.
 
 BEGIN {
-    split("opening tick report command points zones", kind_name)
+    split("opening tick report command points zones totals", kind_name)
     split("Disarmed Armed Takeoff Loiter Mission Land Rtl Terminated", mode_name)
     split("Arm RequestTakeoff RequestMission RequestLoiter RequestRtl RequestLand RequestDisarm ReachedAltitude ReachedHome Touchdown Failsafe Terminate", event_name)
     split("SensorsHealthy EstimatorConverged CalibrationPresent GeofenceLoaded BatteryOk FailsafeConfigured EstimatorInnovation GnssAgreement ParamsFromNvm GeofenceSane ThresholdsOrdered SensorsFresh EscTelemetry BatteryTakeoffMargin RangefinderPlausible CalibrationFresh RcLink GcsLink NoFailsafeLatched MotorsHealthy InsideGeofence", check_name)
@@ -52,6 +52,7 @@ function asked(line,    n, count, text, k) {
     }
     if (n[1] == 3) return text (n[2] ? "a motor failed" : "no motor failed")
     if (n[1] == 4) return text event_name[n[2] + 1] also(!n[3], "not level") also(!n[4], "throttle not low")
+    if (n[1] == 7) return text "since the opening"
     for (k = 3; k <= count; k += n[1] == 5 ? 3 : 4)
         text = text (k > 3 ? "; " : "") (n[1] == 5 ? place(n, k) : float(n[k + 3]) " m around " float(n[k]) " N " float(n[k + 1]) " E")
     return text (n[2] ? "" : "none")
@@ -64,22 +65,29 @@ function as_it_is(line, refusal) {
     return "\"" substr(line, 1, 46) (length(line) > 46 ? ".." : "") "\""
 }
 
-function answered(a, tick,    text) {
+# The nine totals, modes without a tick left out.
+function totals(a,    k, text) {
+    for (k = 1; k <= 8; k++) if (a[10 + k]) text = text (text ? ", " : " that ended in ") mode_name[k] " " a[10 + k]
+    return (text ? "ticks" text : "no ticks") "; changes " a[19]
+}
+
+function answered(a, count, tick,    text) {
     text = mode_name[a[2] + 1]
     if (a[1]) return text "; refused, " a[1] ": " refusal_text[a[1]]
     if (tick) text = text (a[4] ? ", motors off" : ": fly to " place(a, 6)) also(a[3], "landing") also(a[5], "rearm")
     if (a[9]) text = text "; outstanding " a[9] ", first " check_name[a[10] + 1]
+    if (count > 10) text = text "; " totals(a)
     return text
 }
 
 {
     if ((getline line < sheet) != 1) { print "more answers than lines" > "/dev/stderr"; bad = 1; exit }
-    fields($0, a)
+    columns = fields($0, a)
     understood = a[1] < 2 || a[1] > 5
     kind = understood ? substr(line, 1, 11) + 0 : 0
     if (kind == 1 && !a[1]) time = 0
     if (kind == 2 && !a[1]) time += value(substr(line, 12, 11) + 0)
-    printf "%4d  %7.3f s  %-64s  %s %s\n", NR, time, understood ? asked(line) : as_it_is(line, a[1]), a[2] == mode ? " " : "*", answered(a, kind == 2)
+    printf "%4d  %7.3f s  %-64s  %s %s\n", NR, time, understood ? asked(line) : as_it_is(line, a[1]), a[2] == mode ? " " : "*", answered(a, columns, kind == 2)
     mode = a[2]
 }
 

@@ -1,6 +1,6 @@
 //! Document 01's worked example, and cases: readable calls with what is expected of each answer (harness/cases/cases.txt says how they are written).
 
-use crate::sheet::{answer_sheet, write_fields, Shuttle, ANSWER_FIELDS};
+use crate::sheet::{answer_sheet, write_fields, Answer, Shuttle, ANSWER_FIELDS, TOTALS};
 
 const WORKED_INPUT: [&str; 4] =
     ["1 0 0 0 1120403456 1092616192 1096810496 0 0 0", "4 0 1 1", "4 1 1 1", "2 0 0 0 0 0 0 0 0 0 0 0 0 0 0 0 0 0"];
@@ -66,7 +66,7 @@ pub fn cases_of(text: &str) -> Result<Vec<Case>, String> {
         let (bytes, then_report) = line_of(call).map_err(in_line)?;
         for _ in 0..times {
             let answer = take(case, &mut shuttle, &bytes);
-            meets(&answer, expected).map_err(|e| in_line(format!("{e}; answered {answer:?}")))?;
+            meets(&answer, expected).map_err(|e| in_line(format!("{e}; answered {:?}", &answer[..])))?;
             if then_report {
                 let mut report = Vec::new();
                 write_fields(&mut report, &[3, 0]);
@@ -79,7 +79,7 @@ pub fn cases_of(text: &str) -> Result<Vec<Case>, String> {
 }
 
 /// Add a line and its answer to a case.
-fn take(case: &mut Case, shuttle: &mut Shuttle, line: &[u8]) -> [u32; ANSWER_FIELDS] {
+fn take(case: &mut Case, shuttle: &mut Shuttle, line: &[u8]) -> Answer {
     let answer = shuttle.answer(line);
     case.sheet.extend_from_slice(line);
     case.sheet.push(b'\n');
@@ -160,6 +160,7 @@ fn line_of(call: &str) -> Result<(Vec<u8>, bool), String> {
                 floats_at(&mut numbers, 2 + each * k, w)?;
             }
         }
+        "totals" => numbers = vec![7],
         _ => return Err(format!("unknown call {call}")),
     }
     let mut bytes = Vec::new();
@@ -238,12 +239,12 @@ fn bytes_of(text: &str) -> Result<Vec<u8>, String> {
 }
 
 /// Does an answer meet what a case expects? Words not given are not looked at, but for the refusal, which is then 0.
-fn meets(answer: &[u32; ANSWER_FIELDS], expected: &str) -> Result<(), String> {
+fn meets(answer: &[u32], expected: &str) -> Result<(), String> {
     let words: Vec<&str> = expected.split_whitespace().collect();
     let mut refusal = 0;
     let mut k = 0;
     let check = |field: usize, want: u32| {
-        if answer[field] == want {
+        if answer.get(field) == Some(&want) {
             Ok(())
         } else {
             Err(format!("field {} is not {want}", field + 1))
@@ -269,11 +270,22 @@ fn meets(answer: &[u32; ANSWER_FIELDS], expected: &str) -> Result<(), String> {
             }
             "outstanding" => check(8, number()?)?,
             "blocker" => check(9, number()?)?,
+            "totals" => {
+                let totals: Vec<&str> = value.split(',').collect();
+                if totals.len() != TOTALS {
+                    return Err(format!("not nine totals: {value}"));
+                }
+                for (i, word) in totals.iter().enumerate() {
+                    check(ANSWER_FIELDS + i, word.parse().map_err(|_| format!("no number: {word}"))?)?;
+                }
+            }
             first => {
-                used = ANSWER_FIELDS;
                 refusal = first.parse().map_err(|_| format!("unknown word {first}"))?;
-                for i in 1..ANSWER_FIELDS {
-                    let word = words.get(k + i).ok_or("fewer than ten numbers")?;
+                used = words.len() - k;
+                if used != answer.len() {
+                    return Err(format!("{used} numbers expected"));
+                }
+                for (i, word) in words[k..].iter().enumerate().skip(1) {
                     check(i, word.parse().map_err(|_| format!("no number: {word}"))?)?;
                 }
             }

@@ -2,7 +2,7 @@
 
 use crate::generate::{generate, Profile};
 use crate::random::Random;
-use crate::sheet::{call_of, read_line, Call, ANSWER_FIELDS, MODES, WIDTH};
+use crate::sheet::{call_of, read_line, Call, MODES, WIDEST_ANSWER, WIDTH};
 use std::fmt::{self, Display, Formatter};
 use std::io::{self, Read, Write};
 use std::path::Path;
@@ -157,10 +157,12 @@ pub fn since_opening(sheet: &[u8], line: usize) -> (usize, Vec<&[u8]>) {
     (from, lines[from..].to_vec())
 }
 
-/// How often each refusal and each mode was answered, and each mode entered.
+/// How often each refusal, each mode and the totals were answered, and each mode entered.
 #[derive(Clone, Default)]
 pub struct Counts {
     pub lines: u64,
+    /// Answers of the widest sort: accepted lines of kind 7.
+    pub totals: u64,
     pub refusals: [u64; 10],
     pub modes: [u64; 8],
     /// Answers with this mode after one with another, or after none in the case of a mode other than 0.
@@ -171,8 +173,9 @@ impl Counts {
     pub fn of(answers: &[u8]) -> Counts {
         let mut counts = Counts::default();
         let mut before = 0;
-        for answer in answers.chunks_exact(ANSWER_FIELDS * WIDTH + 1) {
+        for answer in answers.split_inclusive(|&b| b == b'\n').filter(|answer| answer.len() > 2 * WIDTH) {
             counts.lines += 1;
+            counts.totals += u64::from(answer.len() == WIDEST_ANSWER * WIDTH + 1);
             if let Some(n) = counts.refusals.get_mut(usize::from(answer[WIDTH - 1] - b'0')) {
                 *n += 1;
             }
@@ -188,15 +191,16 @@ impl Counts {
 
     pub fn add(&mut self, other: &Counts) {
         self.lines += other.lines;
+        self.totals += other.totals;
         let sums = self.refusals.iter_mut().chain(&mut self.modes).chain(&mut self.entered);
         for (sum, n) in sums.zip(other.refusals.iter().chain(&other.modes).chain(&other.entered)) {
             *sum += n;
         }
     }
 
-    /// Every refusal 1..8 and every mode was answered.
+    /// Every refusal 1..8, every mode and the totals were answered.
     pub fn has_all(&self) -> bool {
-        self.refusals[1..9].iter().chain(&self.modes).all(|&n| n > 0)
+        self.refusals[1..9].iter().chain(&self.modes).chain([&self.totals]).all(|&n| n > 0)
     }
 }
 
@@ -205,6 +209,7 @@ impl Display for Counts {
         let named = |counts: &[u64]| MODES.iter().zip(counts).map(|(mode, n)| format!("{mode} {n}")).collect::<Vec<_>>().join(", ");
         writeln!(f, "refusals answered, 0 (accepted) to 8: {:?}", &self.refusals[..9])?;
         writeln!(f, "modes answered: {}", named(&self.modes))?;
-        write!(f, "modes entered: {}", named(&self.entered))
+        writeln!(f, "modes entered: {}", named(&self.entered))?;
+        write!(f, "totals answered: {}", self.totals)
     }
 }

@@ -6,6 +6,7 @@ use crate::relay_fsm::{Event, Mode};
 use crate::relay_preflight::CheckTable;
 use crate::stand_ins::relay_calib::CalParams;
 use std::io::{self, Read, Write};
+use std::ops::Deref;
 
 /// Bytes of a field.
 pub const WIDTH: usize = 11;
@@ -13,6 +14,10 @@ pub const WIDTH: usize = 11;
 pub const MAX_FIELDS: usize = 130;
 /// Fields of an answer.
 pub const ANSWER_FIELDS: usize = 10;
+/// Day totals: ticks by the mode they ended in, and changes of mode.
+pub const TOTALS: usize = 9;
+/// Fields of the widest answer: an accepted line of kind 7 has the totals behind the ordinary fields.
+pub const WIDEST_ANSWER: usize = ANSWER_FIELDS + TOTALS;
 /// The first blocker where none is.
 pub const NO_BLOCKER: u32 = 21;
 
@@ -74,6 +79,26 @@ pub enum Call<'a> {
     Points(&'a [u32]),
     /// Four numbers each.
     Zones(&'a [u32]),
+    Totals,
+}
+
+/// An answer's numbers.
+#[derive(Clone, Copy, Debug)]
+pub enum Answer {
+    Ordinary([u32; ANSWER_FIELDS]),
+    /// With the day totals.
+    Totals([u32; WIDEST_ANSWER]),
+}
+
+impl Deref for Answer {
+    type Target = [u32];
+
+    fn deref(&self) -> &[u32] {
+        match self {
+            Answer::Ordinary(numbers) => numbers,
+            Answer::Totals(numbers) => numbers,
+        }
+    }
 }
 
 /// One field: spaces, then a decimal number below 2^32 without leading zeros.
@@ -183,6 +208,10 @@ pub fn call_of(n: &[u32]) -> Result<Call<'_>, u32> {
             count(2 + 4 * u64::from(n[1]))?;
             Ok(Call::Zones(&n[2..]))
         }
+        7 => {
+            count(1)?;
+            Ok(Call::Totals)
+        }
         _ => Err(3),
     }
 }
@@ -216,11 +245,33 @@ pub fn answer_bits(x: f32) -> u32 {
     }
 }
 
-/// One shuttle: its supervisor once opened, and while a report is due what the report needs.
+/// The day totals: since the opening, the accepted ticks that ended in each mode, and the ticks, reports and commands that ended in another
+/// mode than they began in. The Rust has none; they stay at their limit once there.
+#[derive(Clone, Copy, Debug, Default)]
+pub struct Totals {
+    ticks: [u32; 8],
+    changes: u32,
+}
+
+impl Totals {
+    /// A tick that ended in a mode.
+    fn tick(&mut self, ended: Mode) {
+        let count = &mut self.ticks[ended as usize];
+        *count = count.saturating_add(1);
+    }
+
+    /// A tick, report or command from one mode to another or the same.
+    fn call(&mut self, began: Mode, ended: Mode) {
+        self.changes = self.changes.saturating_add(u32::from(began != ended));
+    }
+}
+
+/// One shuttle: its supervisor once opened, while a report is due what the report needs, and the day totals.
 #[derive(Default)]
 pub struct Shuttle {
     supervisor: Option<FlightSupervisor>,
     due: Option<Due>,
+    totals: Totals,
 }
 
 impl Shuttle {
@@ -242,15 +293,18 @@ impl Shuttle {
     }
 
     /// Answer a line.
-    pub fn answer(&mut self, line: &[u8]) -> [u32; ANSWER_FIELDS] {
+    pub fn answer(&mut self, line: &[u8]) -> Answer {
         self.answer_numbers(read_line(line).as_deref())
     }
 
     /// Answer a line by its numbers, `None` where refusal 2 fits.
-    pub fn answer_numbers(&mut self, numbers: Option<&[u32]>) -> [u32; ANSWER_FIELDS] {
-        match numbers.ok_or(2).and_then(call_of).and_then(|call| self.accept(call)) {
-            Ok(outputs) => self.columns(0, outputs),
-            Err(refusal) => self.columns(refusal, CoreOutputs::default()),
+    pub fn answer_numbers(&mut self, numbers: Option<&[u32]>) -> Answer {
+        let call = numbers.ok_or(2).and_then(call_of);
+        let asks_totals = matches!(call, Ok(Call::Totals));
+        match call.and_then(|call| self.accept(call)) {
+            Ok(outputs) if asks_totals => Answer::Totals(self.with_totals(self.columns(0, outputs))),
+            Ok(outputs) => Answer::Ordinary(self.columns(0, outputs)),
+            Err(refusal) => Answer::Ordinary(self.columns(refusal, CoreOutputs::default())),
         }
     }
 
@@ -260,24 +314,31 @@ impl Shuttle {
         if let Call::Opening(opening) = call {
             self.supervisor = Some(open(opening));
             self.due = None;
+            self.totals = Totals::default();
             return Ok(none);
         }
         let supervisor = self.supervisor.as_mut().ok_or(1u32)?;
         if self.due.is_some() && !matches!(call, Call::Report { .. }) {
             return Err(6);
         }
+        let began = supervisor.mode();
         match call {
             Call::Opening(_) => unreachable!(),
             Call::Tick(inputs) => {
                 self.due = tick(supervisor, inputs);
+                self.totals.tick(supervisor.mode());
+                self.totals.call(began, supervisor.mode());
                 Ok(supervisor.core().outputs)
             }
             Call::Report { failed } => {
+                // Where it runs the tick again (due.rs), it still counts as the report alone: from the tick's mode to its own.
                 report(supervisor, self.due.take().ok_or(7u32)?, failed);
+                self.totals.call(began, supervisor.mode());
                 Ok(none)
             }
             Call::Command { event, level, throttle_low } => {
                 supervisor.command(event, level, throttle_low);
+                self.totals.call(began, supervisor.mode());
                 Ok(none)
             }
             Call::Points(numbers) => {
@@ -291,6 +352,7 @@ impl Shuttle {
                 set_zones(supervisor, numbers);
                 Ok(none)
             }
+            Call::Totals => Ok(none),
         }
     }
 
@@ -302,6 +364,16 @@ impl Shuttle {
         };
         let [x, y, z] = outputs.setpoint.map(answer_bits);
         [refusal, mode, u32::from(outputs.landing), u32::from(outputs.motors_off), u32::from(outputs.rearm), x, y, z, outstanding, blocker]
+    }
+
+    /// The ten numbers with the nine totals behind them.
+    fn with_totals(&self, columns: [u32; ANSWER_FIELDS]) -> [u32; WIDEST_ANSWER] {
+        let mut numbers = [0; WIDEST_ANSWER];
+        let (ordinary, totals) = numbers.split_at_mut(ANSWER_FIELDS);
+        ordinary.copy_from_slice(&columns);
+        totals[..8].copy_from_slice(&self.totals.ticks);
+        totals[8] = self.totals.changes;
+        numbers
     }
 }
 
@@ -357,7 +429,7 @@ pub fn write_fields(out: &mut Vec<u8>, numbers: &[u32]) {
 pub fn answer_sheet(input: &mut impl Read, output: &mut impl Write) -> io::Result<()> {
     let mut shuttle = Shuttle::new();
     each_line(input, |line| {
-        let mut answer = Vec::with_capacity(ANSWER_FIELDS * WIDTH + 1);
+        let mut answer = Vec::with_capacity(WIDEST_ANSWER * WIDTH + 1);
         write_fields(&mut answer, &shuttle.answer(line));
         answer.push(b'\n');
         output.write_all(&answer)

@@ -1,8 +1,8 @@
-//! `figures < SHEET` counts what a sheet reaches: refusals, modes, events handed to the mode machine, branches of the Rust.
+//! `figures < SHEET` counts what a sheet reaches: refusals, modes, totals, events handed to the mode machine, branches of the Rust.
 //! It fails if a branch is not reached that can be reached, or if one is that cannot.
 
 use reference::cover;
-use reference::sheet::{each_line, Shuttle, MODES};
+use reference::sheet::{each_line, Answer, Shuttle, MODES};
 use std::io;
 use std::process::ExitCode;
 
@@ -38,12 +38,13 @@ const UNREACHABLE: [(&str, &str); 11] = [
 
 fn main() -> ExitCode {
     let mut shuttle = Shuttle::new();
-    let (mut lines, mut refusals, mut modes) = (0u64, [0u64; 9], [0u64; 8]);
+    let (mut lines, mut refusals, mut modes, mut totals) = (0u64, [0u64; 9], [0u64; 8], 0u64);
     let read = each_line(&mut io::stdin().lock(), |line| {
         let answer = shuttle.answer(line);
         lines += 1;
         refusals[answer[0] as usize] += 1;
         modes[answer[1] as usize] += 1;
+        totals += u64::from(matches!(answer, Answer::Totals(_)));
         Ok(())
     });
     if let Err(e) = read {
@@ -59,6 +60,7 @@ fn main() -> ExitCode {
     for (mode, count) in MODES.iter().zip(modes) {
         println!("  {mode}: {count}");
     }
+    println!("totals answered: {totals}");
     println!("events handed to the mode machine, by the mode met (+ without a position):");
     let mut pairs = 0;
     for (m, mode) in MODES.iter().enumerate() {
@@ -89,7 +91,7 @@ fn main() -> ExitCode {
         "{reached} of {all} branches reached, {} cannot be, {faults} faults; {pairs} of 96 pairs of mode and event",
         UNREACHABLE.len()
     );
-    let answered = refusals[1..].iter().chain(&modes).all(|&n| n > 0);
+    let answered = refusals[1..].iter().chain(&modes).chain([&totals]).all(|&n| n > 0);
     if faults == 0 && pairs == 96 && answered {
         ExitCode::SUCCESS
     } else {

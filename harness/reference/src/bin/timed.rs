@@ -1,14 +1,14 @@
 //! `timed < SHEET` answers a sheet as `reference` does, for timing: 64 KiB buffers, one pass over the bytes of a line, no allocation for a
 //! line, the report split off `step` (patches/timed) instead of a copy of the supervisor before every tick.
 
-use reference::sheet::{write_fields, Shuttle, ANSWER_FIELDS, MAX_FIELDS, WIDTH};
+use reference::sheet::{write_fields, Shuttle, MAX_FIELDS, WIDEST_ANSWER, WIDTH};
 use std::io::{self, Read, Write};
 use std::process::ExitCode;
 
 /// Bytes of each buffer.
 const BUFFER: usize = 64 * 1024;
-/// Bytes of an answer with its newline.
-const ANSWER: usize = ANSWER_FIELDS * WIDTH + 1;
+/// Bytes of the widest answer with its newline.
+const ANSWER: usize = WIDEST_ANSWER * WIDTH + 1;
 
 fn main() -> ExitCode {
     match answer_sheet(&mut io::stdin().lock(), &mut io::stdout().lock()) {

@@ -59,6 +59,21 @@ pub fn damaged(r: &mut Random, numbers: &[u32], line: &[u8]) -> Vec<u8> {
     }
 }
 
+/// A line of kind 7; once in so many times with a field too many, or damaged. None of these changes anything.
+pub fn totals(r: &mut Random, damage_one_in: u64) -> Vec<u8> {
+    let line = numbers_line(&[7]);
+    if !r.one_in(damage_one_in) {
+        return line;
+    }
+    match r.below(6) {
+        0 => cut(r, &line),
+        1 => longer(r, &line),
+        2 => bad_byte(r, &line),
+        3 => bad_field(r, &line),
+        _ => numbers_line(&[7, r.pick(&[0, 1, 7, 4294967295])]),
+    }
+}
+
 fn not_newline(b: u8) -> u8 {
     if b == b'\n' {
         b' '

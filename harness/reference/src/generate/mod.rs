@@ -10,12 +10,14 @@ mod wild;
 use crate::falcon_core::FlightSupervisor;
 use crate::random::Random;
 use crate::relay_fsm::Mode;
-use crate::sheet::{write_fields, Shuttle, ANSWER_FIELDS};
+use crate::sheet::{write_fields, Shuttle};
 use std::fmt::{self, Display, Formatter};
 use std::io::{self, Write};
 
 /// Once in so many lines comes one of a megabyte or more, where they are asked for.
 const LONG_ONE_IN: u64 = 20_000;
+/// Makes the draws of kind 7 others than those of the days.
+const TOTALS_SEED: u64 = 7 << 32;
 
 /// The sort of sheet.
 #[derive(Clone, Copy, Debug, PartialEq, Eq)]
@@ -50,9 +52,14 @@ impl Display for Profile {
 pub fn generate(profile: Profile, seed: u64, lines: usize, long: bool, out: &mut dyn Write) -> io::Result<()> {
     let mut g = Generator {
         long: long.then(|| Random::new(!seed)),
+        totals: Random::new(seed ^ TOTALS_SEED),
+        totals_one_in: match profile {
+            Profile::Wild => 30,
+            Profile::Flight => 300,
+            Profile::Edge => 50,
+        },
         random: Random::new(seed),
         shuttle: Shuttle::new(),
-        answer: [0; ANSWER_FIELDS],
         setpoint: [0.0; 3],
         landing: false,
         damage_one_in: if profile == Profile::Wild { 4 } else { 100 },
@@ -89,6 +96,7 @@ fn before_opening(g: &mut Generator) -> Step {
     g.command(event::ARM)?;
     g.points(&[])?;
     g.zones(&[])?;
+    g.line(b"          7")?;
     g.bytes(b"12")
 }
 
@@ -103,14 +111,16 @@ pub(crate) type Step = Result<(), End>;
 pub(crate) struct Generator<'a> {
     pub random: Random,
     pub shuttle: Shuttle,
-    /// The reference's answer to the last line.
-    pub answer: [u32; ANSWER_FIELDS],
     /// The setpoint and the landing flag of the last flying tick.
     pub setpoint: [f32; 3],
     pub landing: bool,
     damage_one_in: u64,
     /// Draws the lines of a megabyte or more, by itself, so that the other lines are the same with and without them.
     long: Option<Random>,
+    /// Draws the lines of kind 7, by itself: they change nothing, so the days around them stay as they are.
+    totals: Random,
+    /// Once in so many lines comes one of kind 7; while a report is due, which refuses it, a quarter as often.
+    totals_one_in: u64,
     left: usize,
     written: usize,
     buffer: Vec<u8>,
@@ -192,17 +202,22 @@ impl TickLine {
 }
 
 impl Generator<'_> {
-    /// Write a line and take its answer.
+    /// Write a line of a day.
     pub fn bytes(&mut self, line: &[u8]) -> Step {
+        self.written += 1;
+        self.line(line)
+    }
+
+    /// Write a line and take its answer.
+    fn line(&mut self, line: &[u8]) -> Step {
         if self.left == 0 {
             return Err(End::Enough);
         }
         self.left -= 1;
-        self.written += 1;
-        self.answer = self.shuttle.answer(line);
-        if self.answer[0] == 0 && self.shuttle.report_due() {
-            self.setpoint = [self.answer[5], self.answer[6], self.answer[7]].map(f32::from_bits);
-            self.landing = self.answer[2] == 1;
+        let answer = self.shuttle.answer(line);
+        if answer[0] == 0 && self.shuttle.report_due() {
+            self.setpoint = [answer[5], answer[6], answer[7]].map(f32::from_bits);
+            self.landing = answer[2] == 1;
         }
         self.buffer.extend_from_slice(line);
         self.buffer.push(b'\n');
@@ -213,8 +228,11 @@ impl Generator<'_> {
         Ok(())
     }
 
-    /// Write a line of numbers; now and then a damaged line before it.
+    /// Write a line of numbers; now and then a damaged line or one of kind 7 before it.
     pub fn numbers(&mut self, numbers: &[u32]) -> Step {
+        if self.totals.one_in(self.totals_one_in * if self.shuttle.report_due() { 4 } else { 1 }) {
+            self.totals()?;
+        }
         let mut line = Vec::with_capacity(numbers.len() * 11);
         write_fields(&mut line, numbers);
         if self.random.one_in(self.damage_one_in) {
@@ -227,7 +245,17 @@ impl Generator<'_> {
         self.bytes(&line)
     }
 
+    /// A line of kind 7, damaged as often as others are.
+    fn totals(&mut self) -> Step {
+        let line = damage::totals(&mut self.totals, self.damage_one_in);
+        self.line(&line)
+    }
+
+    /// An opening, every other time behind a line of kind 7: it sets the totals to zero.
     pub fn open(&mut self, o: OpeningLine) -> Step {
+        if self.totals.one_in(2) {
+            self.totals()?;
+        }
         let [x, y, z] = o.home.map(f32::to_bits);
         let floats = [o.fence, o.cruise, o.low_volts].map(f32::to_bits);
         let [fence, cruise, low] = floats;
@@ -266,7 +294,7 @@ impl Generator<'_> {
         self.numbers(&numbers)
     }
 
-    /// Lines so far.
+    /// Lines of the days so far, those of kind 7 left out.
     pub fn written(&self) -> usize {
         self.written
     }
