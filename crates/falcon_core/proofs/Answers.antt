@@ -156,12 +156,12 @@ module _ (s : Supervisor) where
   totals-unsequenced n = sequence-refused s (plans totals) n refl refl
 
   -- an accepted call for them keeps the state
-  pub totals-after : sequenceRefusal (s .opened) (s .«report_due») false ≡ 0 → afterOf s (plans totals) ≡ s
+  pub totals-kept : sequenceRefusal (s .opened) (s .«report_due») false ≡ 0 → afterOf s (plans totals) ≡ s
   unfolding afterOf flightAfter waypointsAfter plannedOf outputOf totalsAfter
-  totals-after q = rw (in-sequence (s .opened) (s .«report_due») q .1)
+  totals-kept q = rw (in-sequence (s .opened) (s .«report_due») q .1)
 
   pub totals-accepted : sequenceRefusal (s .opened) (s .«report_due») false ≡ 0 → acceptedOf s Totals ≡ stepOf s (plans totals)
   unfolding refusalOf shapeRefusal stateRefusal outputOf
   totals-accepted q =
       let h : refusalOf s (plans totals) ≡ 0 = rw q in
-      sym (step-accepted s (plans totals) h ∙ ap (λ (u : Supervisor). acceptedOf u Totals) (totals-after q))
+      sym (step-accepted s (plans totals) h ∙ ap (λ (u : Supervisor). acceptedOf u Totals) (totals-kept q))

@@ -60,6 +60,9 @@ impl Answer {
     // The numbers of an answer line.
     pub const FIELDS: usize = 10;
 
+    // The numbers of an answer line with the totals.
+    pub const WITH_TOTALS: usize = Answer::FIELDS + DayTotals::FIELDS;
+
     // The refusals, in the order in which they are tried; 0 is accepted.
     pub const ACCEPTED: u32 = 0;
     // The answer buffer is too short.
@@ -311,7 +314,7 @@ fn is_tick(output: Output) -> bool
 }
 
 // The totals after a tick, a report or a command that began in this mode and was answered so.
-pub fn totals_after(t: DayTotals, began: Mode, a: Answer) -> DayTotals
+pub fn totals_beside(t: DayTotals, began: Mode, a: Answer) -> DayTotals
     ensures { λ r. ⌜ r ≡ totalsBeside t began a ⌝ }
 {
     let ended = a.mode;
@@ -329,7 +332,7 @@ fn beside(s: Supervisor, told: FlightAnswered) -> Answered
     let flight = told.flight;
     let answer = told.answer;
     let counted = s.totals;
-    let totals = totals_after(counted, began, answer);
+    let totals = totals_beside(counted, began, answer);
     let mut next = s;
     next.flight = flight;
     next.report_due = told.report_due;

@@ -17,8 +17,20 @@ uncounted t m = rw (eq-eqb (modeNumber m) (modeNumber m) refl)
 
 -- the totals whose numbers these counts are
 abbrev pub totalsOf : List Counted → DayTotals
-totalsOf l = record { disarmed = upToLimit (countOf (endedIn 0) l); armed = upToLimit (countOf (endedIn 1) l); takeoff = upToLimit (countOf (endedIn 2) l); loiter = upToLimit (countOf (endedIn 3) l); mission = upToLimit (countOf (endedIn 4) l); land = upToLimit (countOf (endedIn 5) l); rtl = upToLimit (countOf (endedIn 6) l); terminated = upToLimit (countOf (endedIn 7) l); changed = upToLimit (countOf changes l) }
+totalsOf l =
+    record {
+      disarmed = upToLimit (countOf (endedIn 0) l);
+      armed = upToLimit (countOf (endedIn 1) l);
+      takeoff = upToLimit (countOf (endedIn 2) l);
+      loiter = upToLimit (countOf (endedIn 3) l);
+      mission = upToLimit (countOf (endedIn 4) l);
+      land = upToLimit (countOf (endedIn 5) l);
+      rtl = upToLimit (countOf (endedIn 6) l);
+      terminated = upToLimit (countOf (endedIn 7) l);
+      changed = upToLimit (countOf changes l);
+    }
 
+-- which they are
 pub numbers-are : (l : List Counted) → totalsNumbers (totalsOf l) ≡ countsOf l
 unfolding totalsNumbers countsOf
 numbers-are l = refl
@@ -39,4 +51,15 @@ pub totals-next : (l : List Counted) (c : Counted) → countedOf (totalsOf l) (c
 unfolding countedOf
 totals-next l c =
     let on : (f : Counted → Bool) → oneMore (upToLimit (countOf f l)) (f c) ≡ upToLimit (countOf f (c ∷ l)) = λ f. one-on f l c (f c) refl in
-    λ i. record { disarmed = on (endedIn 0) i; armed = on (endedIn 1) i; takeoff = on (endedIn 2) i; loiter = on (endedIn 3) i; mission = on (endedIn 4) i; land = on (endedIn 5) i; rtl = on (endedIn 6) i; terminated = on (endedIn 7) i; changed = on changes i }
+    λ i.
+    record {
+      disarmed = on (endedIn 0) i;
+      armed = on (endedIn 1) i;
+      takeoff = on (endedIn 2) i;
+      loiter = on (endedIn 3) i;
+      mission = on (endedIn 4) i;
+      land = on (endedIn 5) i;
+      rtl = on (endedIn 6) i;
+      terminated = on (endedIn 7) i;
+      changed = on changes i;
+    }

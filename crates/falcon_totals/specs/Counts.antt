@@ -31,4 +31,6 @@ upToLimit n = min 4294967295 n
 
 -- the nine totals as counts: of the ticks that ended in modes 0 to 7, and of the changes
 unfoldable pub countsOf : List Counted → List ℕ
-countsOf l = map (λ (f : Counted → Bool). upToLimit (countOf f l)) (endedIn 0 ∷ endedIn 1 ∷ endedIn 2 ∷ endedIn 3 ∷ endedIn 4 ∷ endedIn 5 ∷ endedIn 6 ∷ endedIn 7 ∷ changes ∷ [])
+countsOf l =
+    map (λ (f : Counted → Bool). upToLimit (countOf f l))
+    (endedIn 0 ∷ endedIn 1 ∷ endedIn 2 ∷ endedIn 3 ∷ endedIn 4 ∷ endedIn 5 ∷ endedIn 6 ∷ endedIn 7 ∷ changes ∷ [])

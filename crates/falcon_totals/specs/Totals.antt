@@ -33,8 +33,8 @@ countedOf t ticked began ended =
     }
 
 -- "the nine totals", as an answer line has them
-abbrev pub totalFields : ℕ
-totalFields = 9
+abbrev pub totalsCount : ℕ
+totalsCount = 9
 
 unfoldable pub totalsNumbers : DayTotals → List ℕ
 totalsNumbers t = t .disarmed ∷ t .armed ∷ t .takeoff ∷ t .loiter ∷ t .mission ∷ t .land ∷ t .rtl ∷ t .terminated ∷ t .changed ∷ []

@@ -15,7 +15,7 @@ use Rattle.falcon_core.specs.Calls.{Request, plans, totals, answerFields, refus
 use Rattle.falcon_core.specs.Refusals.{shortBuffer, notALine}
 use Rattle.falcon_core.proofs.Answers.{step-refused, step-accepted}
 use Rattle.falcon_core.proofs.Parts.{cond-keeps}
-use Rattle.falcon_totals.specs.Totals.{totalFields, totalsNumbers}
+use Rattle.falcon_totals.specs.Totals.{totalsCount, totalsNumbers}
 use Rattle.columns.specs.declared.field.FieldRead.{FieldRead}
 use Rattle.columns.specs.declared.field.FieldRead.the-variants.{Number, Bad}
 use Rattle.columns.specs.Field.{fieldWidth, numberLimit, inRange, kindOf}
@@ -109,7 +109,7 @@ numbers-fit ns =
     (λ ev. ten-fit need _ least (λ s. refl))
     (ten-fit need _ least (λ s. refl))
     (ten-fit need _ least (λ s. refl))
-    (λ e s. omega (arith, need-seven (numberAt ns 0) e, step-extra s (plans totals) totalFields (refusalOf s (plans totals)) refl refl))
+    (λ e s. omega (arith, need-seven (numberAt ns 0) e, step-extra s (plans totals) totalsCount (refusalOf s (plans totals)) refl refl))
 
 line-fit : (line : List ℕ) (k : Reading) → readingLine line ≡ k → Fits (needFields (kindOf line)) (askedBy k)
 line-fit line (read ns) e = subst (λ (f : FieldRead). Fits (needFields f) (requestOf ns)) (sym (reading-kind line ns e)) (numbers-fit ns)

@@ -14,7 +14,7 @@ use Rattle.columns.specs.declared.field.FieldRead.{FieldRead}
 use Rattle.columns.specs.declared.field.FieldRead.the-variants.{Number, Bad}
 use Rattle.columns.specs.Field.{fieldWidth, kindOf}
 use Rattle.columns.specs.Line.{lineOf}
-use Rattle.falcon_totals.specs.Totals.{totalFields, totalsNumbers}
+use Rattle.falcon_totals.specs.Totals.{totalsCount, totalsNumbers}
 use Rattle.requests.specs.Kinds.{Asked, refuses, answeredBy, totalsKind}
 use Rattle.requests.specs.Parse.{askedLine}
 
@@ -24,7 +24,7 @@ answerWidth = fieldWidth * answerFields
 
 -- U1: "the ordinary ten fields and then the nine totals"
 abbrev pub totalsAnswer : ℕ
-totalsAnswer = answerFields + totalFields
+totalsAnswer = answerFields + totalsCount
 
 -- how many fields an answer buffer must have room for, by the line's kind. U1: "a buffer under 209 bytes for kind 7"
 unfoldable pub needFields : FieldRead → ℕ
@@ -61,7 +61,7 @@ replyNumbers a = numbersOf (a .answer) ++ extraOf (a .supervisor) (a .answer .ou
 unfoldable pub replyOf : Answered → List ℕ
 replyOf a = lineOf (replyNumbers a)
 
--- "under 110 bytes nothing is written; else the ten fields", and "Bytes after 110 are untouched."
+-- "answer buffer under 110 bytes; nothing written", 209 for kind 7; else the answer's fields, and the bytes behind them "are untouched"
 unfoldable pub bufferAfter : Supervisor → List ℕ → List ℕ → List ℕ
 bufferAfter s line out =
     cond (ltb (length out) (needOf line)) out (replyOf (lineStep s line out) ++ drop (length (replyOf (lineStep s line out))) out)

@@ -42,6 +42,9 @@ pub enum OtherCall {
 }
 
 impl Kind {
+    // The kind of a line that asks for the totals: its answer needs more room.
+    pub const TOTALS: u32 = 7;
+
     // The fields of a line of each kind.
     pub const OPENING_FIELDS: usize = 10;
 
@@ -293,7 +296,7 @@ pub(crate) fn kind_of(ns: &[u32]) -> Kind
     if kind == 6 {
         return zones_line(ns);
     }
-    if kind == 7 {
+    if kind == Kind::TOTALS {
         return totals_line(ns);
     }
     Kind::Other(OtherCall::Refused(Answer::UNKNOWN_KIND))

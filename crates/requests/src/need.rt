@@ -3,23 +3,20 @@ ghost use mathlib.Core.Path.{_≡_};
 ghost use lib.Dec.{leb, ltb};
 ghost use Rattle.columns.specs.Field.{inRange};
 ghost use Rattle.requests.specs.ByLine.{needFields, needOf};
+use crate::kinds::Kind;
 use columns::field::FIELD;
 use columns::field::read_kind;
 use falcon_core::calls::Answer;
-use falcon_totals::DayTotals;
-
-// The fields of an answer with the totals.
-pub const TOTALS_ANSWER: usize = Answer::FIELDS + DayTotals::FIELDS;
 
 // The bytes that the answer to a line of any kind needs at most.
-const MOST_NEED: usize = FIELD * TOTALS_ANSWER;
+const MOST_NEED: usize = FIELD * Answer::WITH_TOTALS;
 
 // How many fields the answer to a line of this kind needs.
 fn need_fields(kind: u64) -> usize
     ensures { λ r. ⌜ r ≡ needFields (inRange kind) ⌝ }
 {
-    if kind == 7 {
-        return TOTALS_ANSWER;
+    if kind == Kind::TOTALS as u64 {
+        return Answer::WITH_TOTALS;
     }
     Answer::FIELDS
 }

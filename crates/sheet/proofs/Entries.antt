@@ -24,7 +24,7 @@ use Rattle.requests.specs.Kinds.{flightAsks}
 use Rattle.requests.specs.ByLine.{totalsAnswer, replyNumbers}
 use Rattle.falcon_core.specs.declared.calls.Output.the-variants.{Totals}
 use Rattle.falcon_totals.specs.declared.DayTotals.{DayTotals}
-use Rattle.falcon_totals.specs.Totals.{totalFields, totalsNumbers}
+use Rattle.falcon_totals.specs.Totals.{totalsCount, totalsNumbers}
 use Rattle.columns.specs.Field.{put}
 use Rattle.requests.proofs.Buffer.{reply-ten, reply-totals}
 use Rattle.sheet.specs.declared.entry.FlightReplied.{FlightReplied}
@@ -56,7 +56,7 @@ replied-ten a ns d o e =
     }
 
 -- an answer with the totals behind its ten numbers
-totals-count : (t : DayTotals) → length (totalsNumbers t) ≡ totalFields
+totals-count : (t : DayTotals) → length (totalsNumbers t) ≡ totalsCount
 unfolding totalsNumbers
 totals-count t = refl
 

@@ -20,7 +20,7 @@ use falcon_core::calls::flight_command;
 use falcon_core::calls::flight_report;
 use falcon_core::calls::flight_tick;
 use falcon_core::calls::refused;
-use falcon_core::calls::totals_after;
+use falcon_core::calls::totals_beside;
 use falcon_core::supervisor::Supervisor;
 use falcon_failsafe::flight::FlightSupervisor;
 use falcon_guidance::legs::legs;
@@ -32,7 +32,6 @@ use relay_math::from_bits;
 use requests::kinds::FlightCall;
 use requests::kinds::Kind;
 use requests::kinds::OtherCall;
-use requests::need::TOTALS_ANSWER;
 use requests::need::is_short;
 use requests::parse::MOST_FIELDS;
 use requests::parse::asked;
@@ -159,7 +158,7 @@ pub(crate) fn answer_flight(
     FlightReplied {
         flight,
         report_due: told.report_due,
-        totals: totals_after(totals, began, a),
+        totals: totals_beside(totals, began, a),
     }
 }
 
@@ -197,7 +196,7 @@ pub(crate) fn answer_other(s: Supervisor, call: OtherCall, numbers: &mut [u32]) 
     put_totals(numbers, totals);
     LineReplied {
         supervisor,
-        count: TOTALS_ANSWER,
+        count: Answer::WITH_TOTALS,
     }
 }
 

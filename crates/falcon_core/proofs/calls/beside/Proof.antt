@@ -3,11 +3,11 @@ use borrow.Author.Needs.{needs}
 use Rattle.falcon_core.proofs.calls.beside.Statement.{statement}
 use Rattle.falcon_core.proofs.calls.beside.Tie as tie
 
-totals-after-requires : tie.Need-totals-after-requires
-totals-after-requires c κs = search needs
+totals-beside-requires : tie.Need-totals-beside-requires
+totals-beside-requires c κs = search needs
 
 returns : tie.Need-returns
-returns c = rw (c .totals-after .ensures)
+returns c = rw (c .totals-beside .ensures)
 
 pub beside-spec : {M : Type 1} → statement M
-beside-spec = tie.close (tie.spec totals-after-requires returns)
+beside-spec = tie.close (tie.spec totals-beside-requires returns)

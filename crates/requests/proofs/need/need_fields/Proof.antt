@@ -1,6 +1,10 @@
 use Rattle.requests.proofs.Buffer.{need-totals, need-other}
+use borrow.Author.Needs.{needs}
 use Rattle.requests.proofs.need.need_fields.Statement.{statement}
 use Rattle.requests.proofs.need.need_fields.Tie as tie
+
+cast-if1 : tie.Need-cast-if1
+cast-if1 c = search needs
 
 returns : tie.Need-returns
 returns c = need-totals _ (c .if1 .taken)
@@ -9,4 +13,4 @@ returns-2 : tie.Need-returns-2
 returns-2 c = need-other _ (c .if1 .left)
 
 pub need-fields-spec : {M : Type 1} → statement M
-need-fields-spec = tie.close (tie.spec returns returns-2)
+need-fields-spec = tie.close (tie.spec cast-if1 returns returns-2)

@@ -30,8 +30,8 @@ flight-command-requires c κs = search needs
 put-answer-requires : tie.Need-put-answer-requires
 put-answer-requires c κs = search needs
 
-totals-after-requires : tie.Need-totals-after-requires
-totals-after-requires c κs = search needs
+totals-beside-requires : tie.Need-totals-beside-requires
+totals-beside-requires c κs = search needs
 
 same-length : tie.Need-same-length
 same-length c = search needs
@@ -55,7 +55,7 @@ returns c =
     record {
       flight = ap (λ (x : FlightAnswered). x .flight) told;
       due = ap (λ (x : FlightAnswered). x .«report_due») told;
-      totals = c .totals-after .ensures ∙ ap (λ (x : FlightAnswered). totalsBeside (at .before .before .args .totals) (at .before .before .args .f .fsm .mode) (x .answer)) told;
+      totals = c .totals-beside .ensures ∙ ap (λ (x : FlightAnswered). totalsBeside (at .before .before .args .totals) (at .before .before .args .f .fsm .mode) (x .answer)) told;
       numbers = front-ten (at .match .told .answer) _ _ (c .before .before .before .before .before .put-answer .ensures) ∙ ap (λ (x : FlightAnswered). numbersOf (x .answer)) told;
     }
 
@@ -70,6 +70,6 @@ answer-flight-spec =
     enum-known-call-3
     flight-command-requires
     put-answer-requires
-    totals-after-requires
+    totals-beside-requires
     same-length
     returns)
