@@ -147,10 +147,13 @@ breached =
     ∷ quiet
     ∷ []
 
--- the totals asked for: by line with 208 and with 209 bytes, by values, after an opening that is refused, and after one that is not
+-- the totals asked for: by a line with a byte too many and 150 bytes of buffer, by one whose number begins with 0 and 110, by line with 208 and with 209 bytes,
+-- by values, after an opening that is refused, and after one that is not
 asked : List Call
 asked =
-    kind7 208
+    byLine (lineOf (7 ∷ []) ++ (32 ∷ [])) (replicate 150 0)
+    ∷ byLine (replicate 9 32 ++ (48 ∷ 55 ∷ [])) (replicate 110 0)
+    ∷ kind7 208
     ∷ kind7 209
     ∷ byValues (plans totals)
     ∷ line (1 ∷ 0 ∷ 0 ∷ 0 ∷ 0 ∷ 0 ∷ 0 ∷ 2097152 ∷ 0 ∷ 0 ∷ [])
@@ -163,6 +166,8 @@ asked =
 totalled : List (List ℕ)
 totalled =
     (9 ∷ 5 ∷ 0 ∷ 0 ∷ 0 ∷ 0 ∷ 0 ∷ 0 ∷ 0 ∷ 21 ∷ [])
+    ∷ (2 ∷ 5 ∷ 0 ∷ 0 ∷ 0 ∷ 0 ∷ 0 ∷ 0 ∷ 0 ∷ 21 ∷ [])
+    ∷ (9 ∷ 5 ∷ 0 ∷ 0 ∷ 0 ∷ 0 ∷ 0 ∷ 0 ∷ 0 ∷ 21 ∷ [])
     ∷ (0 ∷ 5 ∷ 0 ∷ 0 ∷ 0 ∷ 0 ∷ 0 ∷ 0 ∷ 0 ∷ 21 ∷ 0 ∷ 0 ∷ 0 ∷ 0 ∷ 0 ∷ 1 ∷ 0 ∷ 0 ∷ 3 ∷ [])
     ∷ (0 ∷ 5 ∷ 0 ∷ 0 ∷ 0 ∷ 0 ∷ 0 ∷ 0 ∷ 0 ∷ 21 ∷ 0 ∷ 0 ∷ 0 ∷ 0 ∷ 0 ∷ 1 ∷ 0 ∷ 0 ∷ 3 ∷ [])
     ∷ (5 ∷ 5 ∷ 0 ∷ 0 ∷ 0 ∷ 0 ∷ 0 ∷ 0 ∷ 0 ∷ 21 ∷ [])
