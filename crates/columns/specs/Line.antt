@@ -3,12 +3,13 @@ use Prim.Native.Nat.{ℕ, zero, suc, _+_, _*_, _/_, _%_, _^_, _<_}
 use mathlib.Core.Bool.{Bool, cond, _&&_}
 use mathlib.Core.List.{List, [], _∷_, _++_}
 use lib.Dec.{eqb, leb, ltb}
-use lib.ListN.{length, take, drop}
+use lib.ListN.{length, getD, take, drop}
+use lib.Ieee.{Float, binary32, ofBits}
 use Rattle.columns.specs.declared.field.FieldRead.{FieldRead}
 use Rattle.columns.specs.declared.field.FieldRead.the-variants.{Number, Bad}
 use Rattle.columns.specs.declared.line.LineRead.{LineRead}
 use Rattle.columns.specs.declared.line.LineRead.the-variants.{Numbers, Broken, NoRoom}
-use Rattle.columns.specs.Field.{fieldWidth, readField, fieldOf}
+use Rattle.columns.specs.Field.{fieldWidth, readField, fieldOf, put}
 
 -- "At most 130 fields"
 abbrev pub lineFields : ℕ
@@ -55,6 +56,18 @@ lineOf (n ∷ ns) = fieldOf n ++ lineOf ns
 unfoldable pub writtenOver : List ℕ → List ℕ → List ℕ
 writtenOver ns out = cond (ltb (length out) (fieldWidth * length ns)) out (lineOf ns ++ drop (fieldWidth * length ns) out)
 
+-- number k of a line, counted from 0
+abbrev pub numberAt : List ℕ → ℕ → ℕ
+numberAt ns k = getD ns k 0
+
+-- "Floats are their bits as a number."
+abbrev pub floatAt : List ℕ → ℕ → Float
+floatAt ns k = ofBits binary32 (numberAt ns k)
+
+-- a flag is 0 or 1
+abbrev pub flagAt : List ℕ → ℕ → Bool
+flagAt ns k = eqb (numberAt ns k) 1
+
 -- "0..4294967295", of each number
 abbrev pub InRange : List ℕ → Type 0
 InRange [] = Unit
@@ -82,6 +95,10 @@ leading (suc k) s = upTo (readField (take fieldWidth s)) (leading k (drop fieldW
 -- an array with these numbers at its start, and the rest as it was
 abbrev pub over : List ℕ → List ℕ → List ℕ
 over ns a = ns ++ drop (length ns) a
+
+-- an array after these numbers are put into it from place `at` on: as it was where they have no room
+unfoldable pub putOver : ℕ → List ℕ → List ℕ → List ℕ
+putOver at ns a = cond (ltb (length a) (at + length ns)) a (put a at ns)
 
 -- the array after `read_line`: as it was where the line's length is bad or the places are too few, else the numbers before the first bad field and the rest as it was
 unfoldable pub numbersOver : ℕ → List ℕ → List ℕ → List ℕ

@@ -21,7 +21,7 @@ use Rattle.relay_preflight.specs.Check.{allChecks}
 use Rattle.relay_preflight.specs.Table.{bitOf, withBitOf, setOf, legacyPassedOf, failsOf, failingMaskOf, outstandingOf}
 use Rattle.relay_preflight.specs.Verdict.{firstIn, firstBlockerOf}
 use Rattle.relay_batt.specs.Battery.{openedOf, heardOf, updateOf, lostOf, runOf}
-use Rattle.relay_batt.specs.Config.{defaultOf, forOpeningVoltsOf, capacityOf, cellsOf}
+use Rattle.relay_batt.specs.Config.{defaultOf, forPackOf, forOpeningVoltsOf, capacityOf, cellsOf}
 use Rattle.relay_batt.specs.Curve.{sanitizeOf, knots, walk, tableOf, ocvSocCellOf}
 use Rattle.relay_batt.specs.Estimator.{noneOf, shownOf, newOf, resetOf, consumedOf, bigStepOf, blendOf, rEstOf, restOf, socCoulombOf, socOf, withAmpsOf, voltsOnlyOf, updateAmpsOf, updateVoltsOf}
 use Rattle.relay_batt.specs.Latch.{tripOf}
@@ -209,5 +209,5 @@ seen-in-lists :
     × (final 0 (modes start (flying ++ tumble 50)) ≡ 7)
     × (map replyNumbers (answersFrom (placeFrom start breached) asked) ≡ totalled)
     × (countsOf (placeFrom start breached .counted) ≡ 0 ∷ 0 ∷ 0 ∷ 0 ∷ 0 ∷ 1 ∷ 0 ∷ 0 ∷ 3 ∷ [])
-unfolding kind7 breached asked totalled noTotals countedOf totalsNumbers countOf countsOf totalsAfter totalsLine opening tick flat calmly tripped tilted quiet flying line worked answered answersFrom modes latches tumble final rootBy wholeRoot radicand dropped rounded ranged rootOf maxOf clampOf eventAt rowOf onOf allChecks bitOf withBitOf setOf legacyPassedOf failsOf failingMaskOf outstandingOf firstIn firstBlockerOf openedOf heardOf updateOf lostOf runOf defaultOf forOpeningVoltsOf capacityOf cellsOf sanitizeOf knots walk tableOf ocvSocCellOf noneOf shownOf newOf resetOf consumedOf bigStepOf blendOf rEstOf restOf socCoulombOf socOf withAmpsOf voltsOnlyOf updateAmpsOf updateVoltsOf tripOf shapeRefusal sequenceRefusal stateRefusal refusalOf commandedBy startOf startPoints plannedOf flightAfter waypointsAfter afterOf outputOf answerOf refusedOf acceptedOf stepOf numbersOf clearedOf breachOf breachGives breachedOf tiltedOf runawayEnough runawayCounted runawayGives runawayOf gustyOf windEnough windCounted windGives windOf reportedOf lengthOf distanceOf horizSpeedOf brakePointOf enteredOf holdRestOf brakedOf leftOf keptOf heldOf heightOf highOf nearHomeOf nearGroundOf distance3Of arrivedOf milestoneGives legOf advancedOf milestoneOf waypointAdmissibleOf pointAtOf triedOf allAdmissibleOf storedOf loadedOf loadedPointsOf waypointAtOf legWaypointOf currentWaypointOf legsOf outsideGeofenceOf geofenceSaneOf navRowsOf integrityRowsOf readinessRowsOf updatePreflightOf escTelemetryOf landingOf setpointOf commandedOf stateOpenedOf unopened checkedOf poweredOf telemetryOf sensedOf afterBreach afterRunaway afterWind afterMilestone holdingOf answeredOf endedOf tickOf givenOf goalOf bearingOf alongOf perpOf obstructsOf threatensOf tangentOf urgencyOf ringOf deflectedOf aroundOf aroundAllOf avoidOf zoneAtOf zonesKeptOf storedZonesOf loadedZonesOf askedLine askedWith lineStep replyOf bufferAfter inRange digits fieldStart spaced readField column columns fieldOf put openingFrom openingLine readingFrom batteryOk tickFrom tickOk tickLine reportLine commandLine pointsLine zonesLine requestOf onto before fields lengthOk readWithin lineOf callStep acceptedRequest placeAfter nextPlace placeFrom start calmFrom ticksFrom add sub mul div neg lt eq le ne ofBits ofInt round units isNan size toBits kindOf needFields needOf extraOf replyNumbers limitFields readingLine ones
+unfolding kind7 breached asked totalled noTotals countedOf totalsNumbers countOf countsOf totalsAfter totalsLine opening tick flat calmly tripped tilted quiet flying line worked answered answersFrom modes latches tumble final rootBy wholeRoot radicand dropped rounded ranged rootOf maxOf clampOf eventAt rowOf onOf allChecks bitOf withBitOf setOf legacyPassedOf failsOf failingMaskOf outstandingOf firstIn firstBlockerOf openedOf heardOf updateOf lostOf runOf defaultOf forOpeningVoltsOf forPackOf capacityOf cellsOf sanitizeOf knots walk tableOf ocvSocCellOf noneOf shownOf newOf resetOf consumedOf bigStepOf blendOf rEstOf restOf socCoulombOf socOf withAmpsOf voltsOnlyOf updateAmpsOf updateVoltsOf tripOf shapeRefusal sequenceRefusal stateRefusal refusalOf commandedBy startOf startPoints plannedOf flightAfter waypointsAfter afterOf outputOf answerOf refusedOf acceptedOf stepOf numbersOf clearedOf breachOf breachGives breachedOf tiltedOf runawayEnough runawayCounted runawayGives runawayOf gustyOf windEnough windCounted windGives windOf reportedOf lengthOf distanceOf horizSpeedOf brakePointOf enteredOf holdRestOf brakedOf leftOf keptOf heldOf heightOf highOf nearHomeOf nearGroundOf distance3Of arrivedOf milestoneGives legOf advancedOf milestoneOf waypointAdmissibleOf pointAtOf triedOf allAdmissibleOf storedOf loadedOf loadedPointsOf waypointAtOf legWaypointOf currentWaypointOf legsOf outsideGeofenceOf geofenceSaneOf navRowsOf integrityRowsOf readinessRowsOf updatePreflightOf escTelemetryOf landingOf setpointOf commandedOf stateOpenedOf unopened checkedOf poweredOf telemetryOf sensedOf afterBreach afterRunaway afterWind afterMilestone holdingOf answeredOf endedOf tickOf givenOf goalOf bearingOf alongOf perpOf obstructsOf threatensOf tangentOf urgencyOf ringOf deflectedOf aroundOf aroundAllOf avoidOf zoneAtOf zonesKeptOf storedZonesOf loadedZonesOf askedLine askedWith lineStep replyOf bufferAfter inRange digits fieldStart spaced readField column columns fieldOf put openingFrom openingLine readingFrom batteryOk tickFrom tickOk tickLine reportLine commandLine pointsLine zonesLine requestOf onto before fields lengthOk readWithin lineOf callStep acceptedRequest placeAfter nextPlace placeFrom start calmFrom ticksFrom add sub mul div neg lt eq le ne ofBits ofInt round units isNan size toBits kindOf needFields needOf extraOf replyNumbers limitFields readingLine ones
 seen-in-lists = (refl, refl, refl, refl, refl, refl, refl, refl, refl)

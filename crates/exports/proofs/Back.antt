@@ -23,7 +23,7 @@ use Rattle.relay_preflight.specs.Check.{checkNumber}
 use Rattle.relay_batt.specs.Fits.{Fit, FitBattery}
 use Rattle.relay_batt.specs.declared.battery.Battery.{Battery}
 use Rattle.exports.specs.Numbers.{flag}
-use Rattle.exports.specs.Modes.{modeAt}
+use Rattle.relay_fsm.specs.Mode.{modeAt}
 use Rattle.exports.specs.Policy.{actionAt}
 use Rattle.exports.specs.Checks.{checkAt}
 use Rattle.exports.specs.Batt.{size, bits, configFrom, latchFrom, estimatorFrom, stateFrom, batteryFrom, configNumbers, estimatorNumbers, stateNumbers, silenceNumbers, batteryNumbers, storedOf}

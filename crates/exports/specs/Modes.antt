@@ -1,30 +1,15 @@
 -- The mode machine by the numbers of modes and events.
 use Prim.Native.Nat.{ℕ}
 use mathlib.Core.Bool.{cond}
-use mathlib.Core.List.{List, [], _∷_}
 use lib.Dec.{ltb}
-use lib.ListN.{getD}
 use Rattle.relay_fsm.specs.declared.Mode.{Mode}
-use Rattle.relay_fsm.specs.declared.Mode.the-variants.{Disarmed, Armed, Takeoff, Loiter, Mission, Land, Rtl, Terminated}
 use Rattle.relay_fsm.specs.declared.FoundEvent.{FoundEvent}
 use Rattle.relay_fsm.specs.declared.FoundEvent.the-variants.{Known, Unknown}
 use Rattle.relay_fsm.specs.declared.Gates.{Gates}
-use Rattle.relay_fsm.specs.Mode.{modeNumber, isAirborneOf, rankOf}
+use Rattle.relay_fsm.specs.Mode.{modeNumber, modeCount, modeAt, isAirborneOf, rankOf}
 use Rattle.relay_fsm.specs.Event.{eventAt}
 use Rattle.relay_fsm.specs.Fsm.{onOf}
 use Rattle.exports.specs.Numbers.{unknown, flag, bit}
-
--- "Modes 0..7: Disarmed, Armed, Takeoff, Loiter, Mission, Land, Rtl, Terminated."
-abbrev pub modes : List Mode
-modes = Disarmed ∷ Armed ∷ Takeoff ∷ Loiter ∷ Mission ∷ Land ∷ Rtl ∷ Terminated ∷ []
-
--- how many modes there are
-abbrev pub modeCount : ℕ
-modeCount = 8
-
--- the mode with a number below 8
-unfoldable pub modeAt : ℕ → Mode
-modeAt n = getD modes n Disarmed
 
 -- the gates by the four lowest bits, in the order of the Rust's fields
 unfoldable pub gatesFrom : ℕ → Gates

@@ -10,7 +10,8 @@ use relay_fsm::Gates;
 use relay_fsm::Mode;
 ghost use mathlib.Core.Path.{_≡_};
 ghost use Prim.Native.Nat.{_<_};
-ghost use Rattle.exports.specs.Modes.{modeCount, modeAt, gatesFrom, onFound, onNumber, rankNumber, airborneNumber};
+ghost use Rattle.relay_fsm.specs.Mode.{modeCount, modeAt};
+ghost use Rattle.exports.specs.Modes.{gatesFrom, onFound, onNumber, rankNumber, airborneNumber};
 
 // How many modes there are.
 const COUNT: u32 = 8;

@@ -8,7 +8,7 @@ use lib.Ieee.Scale.{finite}
 use Rattle.relay_math.specs.Small.{clampOf}
 use Rattle.relay_batt.specs.Curve as curve
 use Rattle.relay_batt.specs.Curve.{sanitizeOf, knots, between, walk, tableOf, cellMax, ocvSocCellOf}
-use Rattle.relay_batt.specs.Config.{capacityMin, capacityMax, fallbackCapacity, fallbackResistance, defaultOf, forOpeningVoltsOf, capacityOf, cellsOf}
+use Rattle.relay_batt.specs.Config.{capacityMin, capacityMax, fallbackCapacity, fallbackResistance, defaultOf, forPackOf, forOpeningVoltsOf, capacityOf, cellsOf}
 use Rattle.relay_batt.specs.Latch.{tripOf}
 use Rattle.relay_batt.specs.Estimator.{vMax, iMax, rMin, rMax, noneOf, shownOf, newOf, consumedOf, bigStepOf, blendOf, rEstOf, restOf, socCoulombOf, socOf, withAmpsOf, voltsOnlyOf, cutDt, cutVolts, cutAmps, updateAmpsOf, updateVoltsOf}
 use Rattle.relay_batt.specs.Battery.{openedOf, heardOf, updateOf}
@@ -151,7 +151,7 @@ fits-new c f = record {
 }
 
 pub fits-opening : (volts : Float) → FitConfig (forOpeningVoltsOf volts)
-unfolding forOpeningVoltsOf defaultOf
+unfolding forOpeningVoltsOf forPackOf defaultOf
 fits-opening volts = record {
   capacity = ofBits-fits binary32 _;
   internal = ofBits-fits binary32 _;

@@ -13,7 +13,7 @@ use Rattle.relay_math.specs.Small.{clampOf}
 use Rattle.relay_batt.specs.Bounds.{Within}
 use Rattle.relay_batt.specs.Curve as curve
 use Rattle.relay_batt.specs.Curve.{one, sanitizeOf, ocvSocCellOf}
-use Rattle.relay_batt.specs.Config.{capacityMah, capacityMin, capacityMax, fallbackCapacity, fallbackResistance, defaultOf, capacityOf, cellsOf, forOpeningVoltsOf}
+use Rattle.relay_batt.specs.Config.{capacityMah, capacityMin, capacityMax, fallbackCapacity, fallbackResistance, defaultOf, capacityOf, cellsOf, forPackOf, forOpeningVoltsOf}
 use Rattle.relay_batt.specs.Latch.{tripOf}
 use Rattle.relay_batt.specs.Estimator.{vMax, iMax, dtMax, rMin, rMax, noneOf, shownOf, newOf, consumedOf, bigStepOf, blendOf, rEstOf, restOf, socCoulombOf, socOf, withAmpsOf, voltsOnlyOf, cutDt, cutVolts, cutAmps, updateAmpsOf, updateVoltsOf}
 use Rattle.relay_batt.specs.Battery.{openedOf, heardOf, updateOf, Turn, runOf}
@@ -227,7 +227,7 @@ opened-cfg cfg = refl
 
 -- the built-in pack's capacity, whatever the opening volts are
 pub capacity-opening : (volts : Float) → capacityOf (forOpeningVoltsOf volts) ≡ capacityMah
-unfolding capacityOf forOpeningVoltsOf defaultOf sanitizeOf clampOf ofBits lt
+unfolding capacityOf forOpeningVoltsOf forPackOf defaultOf sanitizeOf clampOf ofBits lt
 capacity-opening volts = refl
 
 pub capacity-default : capacityOf defaultOf ≡ capacityMah

@@ -36,13 +36,13 @@ defaultOf = record {
   «debounce_s» = debounceS;
 }
 
--- "Opening volts L give thresholds L / 4 and L / 4 − 0.15": the configuration of `with_core`
-unfoldable pub forOpeningVoltsOf : Float → BattConfig
-forOpeningVoltsOf volts =
-    let low = div binary32 volts (ofInt binary32 (pos packCells)) in
+-- the built-in pack with so many cells, and the thresholds by opening volts
+unfoldable pub forPackOf : ℕ → Float → BattConfig
+forPackOf cells volts =
+    let low = div binary32 volts (ofInt binary32 (pos cells)) in
     record {
       «capacity_mah» = defaultOf .«capacity_mah»;
-      cells = defaultOf .cells;
+      cells = cells;
       «r_internal» = defaultOf .«r_internal»;
       «low_soc» = defaultOf .«low_soc»;
       «crit_soc» = defaultOf .«crit_soc»;
@@ -50,6 +50,10 @@ forOpeningVoltsOf volts =
       «crit_v_cell_fallback» = sub binary32 low (f32 0x3e19_999a);
       «debounce_s» = defaultOf .«debounce_s»;
     }
+
+-- "Opening volts L give thresholds L / 4 and L / 4 − 0.15": the configuration of `with_core`
+unfoldable pub forOpeningVoltsOf : Float → BattConfig
+forOpeningVoltsOf volts = forPackOf packCells volts
 
 -- 1 mAh and 1e6 mAh, between which a capacity is cut
 abbrev pub capacityMin : Float

@@ -16,7 +16,7 @@ use Rattle.relay_fsm.specs.declared.Mode.the-variants.{Disarmed, Armed, 
 use Rattle.relay_fsm.specs.declared.Event.{Event}
 use Rattle.relay_fsm.specs.declared.Event.the-variants.{Arm, RequestTakeoff, RequestMission, RequestLoiter, RequestRtl, RequestLand, RequestDisarm, ReachedAltitude, ReachedHome, Touchdown, Failsafe, Terminate}
 use Rattle.relay_fsm.specs.declared.Gates.{Gates}
-use Rattle.relay_fsm.specs.Mode.{modeNumber, isMode}
+use Rattle.relay_fsm.specs.Mode.{modeNumber, modes, isMode}
 use Rattle.relay_fsm.specs.Event.{eventCount, eventNumber, isEvent, allEvents}
 use Rattle.relay_fsm.specs.Fsm.{isPair}
 
@@ -62,9 +62,6 @@ at-number (suc n) f t k h =
 
 -- modes by their numbers
 
-abbrev pub allModes : List Mode
-allModes = Disarmed ∷ Armed ∷ Takeoff ∷ Loiter ∷ Mission ∷ Land ∷ Rtl ∷ Terminated ∷ []
-
 pub mode-number-below : (m : Mode) → modeNumber m < 8
 mode-number-below Disarmed = lit< tt
 mode-number-below Armed = lit< tt
@@ -75,7 +72,7 @@ mode-number-below Land = lit< tt
 mode-number-below Rtl = lit< tt
 mode-number-below Terminated = lit< tt
 
-pub mode-at : (m : Mode) → getD allModes (modeNumber m) Disarmed ≡ m
+pub mode-at : (m : Mode) → getD modes (modeNumber m) Disarmed ≡ m
 mode-at Disarmed = refl
 mode-at Armed = refl
 mode-at Takeoff = refl
@@ -86,7 +83,7 @@ mode-at Rtl = refl
 mode-at Terminated = refl
 
 pub mode-number-injective : (m n : Mode) → modeNumber m ≡ modeNumber n → m ≡ n
-mode-number-injective m n e = sym (mode-at m) ∙ ap (λ (k : ℕ). getD allModes k Disarmed) e ∙ mode-at n
+mode-number-injective m n e = sym (mode-at m) ∙ ap (λ (k : ℕ). getD modes k Disarmed) e ∙ mode-at n
 
 pub isMode→eq : (m n : Mode) → T (isMode m n) → m ≡ n
 isMode→eq m n t = mode-number-injective m n (eqb→eq (modeNumber m) (modeNumber n) t)
@@ -139,7 +136,7 @@ abbrev pub allB : (Bool → Bool) → Bool
 allB f = f true && f false
 
 abbrev pub allM : (Mode → Bool) → Bool
-allM f = every f allModes
+allM f = every f modes
 
 abbrev pub allE : (Event → Bool) → Bool
 allE f = every f allEvents
@@ -155,7 +152,7 @@ atB f t true = and-l (f true) (f false) t
 atB f t false = and-r (f true) (f false) t
 
 pub atM : (f : Mode → Bool) → T (allM f) → (m : Mode) → T (f m)
-atM f t m = subst (λ n. T (f n)) (mode-at m) (at-place f allModes Disarmed t (modeNumber m) (mode-number-below m))
+atM f t m = subst (λ n. T (f n)) (mode-at m) (at-place f modes Disarmed t (modeNumber m) (mode-number-below m))
 
 pub atE : (f : Event → Bool) → T (allE f) → (e : Event) → T (f e)
 atE f t e = subst (λ n. T (f n)) (event-at e) (at-place f allEvents Arm t (eventNumber e) (event-number-below e))

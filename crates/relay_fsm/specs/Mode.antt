@@ -1,7 +1,9 @@
 -- What document 01, "Mode and event", says of the modes: their numbers, which are airborne, and their ranks.
 use mathlib.Core.Bool.{Bool, true, false}
 use Prim.Native.Nat.{ℕ}
+use mathlib.Core.List.{List, [], _∷_}
 use lib.Dec.{eqb}
+use lib.ListN.{getD}
 use Rattle.relay_fsm.specs.declared.Mode.{Mode}
 use Rattle.relay_fsm.specs.declared.Mode.the-variants.{Disarmed, Armed, Takeoff, Loiter, Mission, Land, Rtl, Terminated}
 
@@ -15,6 +17,18 @@ modeNumber Mission = 4
 modeNumber Land = 5
 modeNumber Rtl = 6
 modeNumber Terminated = 7
+
+-- the modes in the order of their numbers
+abbrev pub modes : List Mode
+modes = Disarmed ∷ Armed ∷ Takeoff ∷ Loiter ∷ Mission ∷ Land ∷ Rtl ∷ Terminated ∷ []
+
+-- how many modes there are
+abbrev pub modeCount : ℕ
+modeCount = 8
+
+-- the mode with a number below 8
+unfoldable pub modeAt : ℕ → Mode
+modeAt n = getD modes n Disarmed
 
 -- Whether a mode is the one that a row of the Rust's match names.
 abbrev pub isMode : Mode → Mode → Bool

@@ -10,7 +10,6 @@ use Rattle.columns.specs.declared.line.LineRead.the-variants.{Numbers}
 use Rattle.columns.specs.declared.field.FieldRead.{FieldRead}
 use Rattle.columns.specs.declared.field.FieldRead.the-variants.{Number, Bad}
 use Rattle.columns.specs.Field.{fieldWidth, inRange, kindOf}
-use Rattle.columns.specs.Line.{read, lineFields, lengthOk, readWithin, lineAnswer, numbersOver}
 use Rattle.columns.proofs.LineAgain.{within-cut, length-same, kind-cut, line-only, first-number}
 use Rattle.columns.proofs.LineOver.{within-limits, over-limits, ReadInto, read-into, read-not}
 use Rattle.falcon_core.specs.Calls.{plans, points, zones}
@@ -18,7 +17,8 @@ use Rattle.falcon_guidance.specs.State.{pointNumbers, zoneNumbers}
 use Rattle.requests.specs.declared.kinds.Kind.{Kind}
 use Rattle.requests.specs.declared.kinds.Kind.the-variants.{Flight, Other}
 use Rattle.requests.specs.declared.kinds.OtherCall.the-variants.{Refused, Opens, Points, Zones, Totals}
-use Rattle.requests.specs.Kinds.{Asked, refuses, asks, numberAt, listHead, listFields, requestOf, listLine, listFloats, Says}
+use Rattle.columns.specs.Line.{read, lineFields, lengthOk, readWithin, lineAnswer, numbersOver, numberAt}
+use Rattle.requests.specs.Kinds.{Asked, refuses, asks, listHead, listFields, requestOf, listLine, listFloats, Says}
 use Rattle.falcon_core.specs.Refusals.{notALine}
 use Rattle.requests.specs.Parse.{askedBy, limitFields, mostFields, readingLine, askedLine, numbersAfter}
 

@@ -19,9 +19,9 @@ use Rattle.falcon_totals.specs.Totals.{totalsCount, totalsNumbers}
 use Rattle.columns.specs.declared.field.FieldRead.{FieldRead}
 use Rattle.columns.specs.declared.field.FieldRead.the-variants.{Number, Bad}
 use Rattle.columns.specs.Field.{fieldWidth, numberLimit, inRange, kindOf}
-use Rattle.columns.specs.Line.{Reading, read, broken, lineOf, writtenOver}
 use Rattle.columns.proofs.Writing.{length-line}
-use Rattle.requests.specs.Kinds.{Asked, refuses, asks, answeredBy, numberAt, totalsKind, requestOf}
+use Rattle.columns.specs.Line.{Reading, read, broken, lineOf, writtenOver, numberAt}
+use Rattle.requests.specs.Kinds.{Asked, refuses, asks, answeredBy, totalsKind, requestOf}
 use Rattle.requests.specs.Parse.{askedBy, readingLine, askedLine}
 use Rattle.falcon_core.proofs.Numbers.{numbers-count}
 use Rattle.requests.proofs.Asking.{reading-kind}

@@ -14,7 +14,8 @@ use Rattle.falcon_guidance.specs.State.{pointNumbers, zoneNumbers}
 use Rattle.falcon_core.specs.Calls.{opens, ticks, reports, commands, plans, points, zones, totals}
 use Rattle.falcon_core.specs.Refusals.{unknownKind, wrongCount, outOfRange}
 use Rattle.falcon_core.proofs.Parts.{cond-keeps}
-use Rattle.requests.specs.Kinds.{Asked, refuses, asks, numberAt, flagAt, isFlag, fielded, openingFields, openingFrom, openingLine, tickFields, tickFrom, tickOk, tickLine, reportFields, reportLine, commandFields, commandWith, commandLine, isList, listFloats, pointsLine, zonesLine, totalsKind, totalsFields, totalsLine, requestOf}
+use Rattle.columns.specs.Line.{numberAt, flagAt}
+use Rattle.requests.specs.Kinds.{Asked, refuses, asks, isFlag, fielded, openingFields, openingFrom, openingLine, tickFields, tickFrom, tickOk, tickLine, reportFields, reportLine, commandFields, commandWith, commandLine, isList, listFloats, pointsLine, zonesLine, totalsKind, totalsFields, totalsLine, requestOf}
 
 -- by a test, with what it tells where it holds
 cond-told : (P : Asked → Type 0) (b : Bool) (x y : Asked) → (b ≡ true → P x) → P y → P (cond b x y)

@@ -9,8 +9,9 @@ use lib.Ieee.Fits.{nan-fits}
 use Rattle.relay_batt.specs.Fits.{Fit, FitReading}
 use Rattle.falcon_core.specs.SoundState.{FitPoint, FitOpening, FitTick, Lent}
 use Rattle.falcon_core.proofs.Parts.{cond-keeps}
-use Rattle.columns.specs.Line.{Reading, read, broken}
-use Rattle.requests.specs.Kinds.{Asked, refuses, asks, numberAt, pointFrom, listHead, openingFrom, readingFrom, tickFrom, requestOf}
+use Rattle.columns.specs.Line.{Reading, read, broken, numberAt}
+use Rattle.falcon_record.specs.From.{pointFrom}
+use Rattle.requests.specs.Kinds.{Asked, refuses, asks, listHead, openingFrom, readingFrom, tickFrom, requestOf}
 use Rattle.requests.specs.Parse.{askedBy, readingLine, askedLine}
 use Rattle.requests.specs.ByLine.{needOf, askedWith}
 use Rattle.requests.proofs.ByKind.{request-keeps}

@@ -4,14 +4,13 @@ use mathlib.Core.Path.{_≡_}
 use mathlib.Core.Bool.{Bool, cond, _&&_, _||_}
 use mathlib.Core.List.{List, map}
 use lib.Dec.{eqb, leb, ltb}
-use lib.ListN.{length, getD, take, drop}
+use lib.ListN.{length, take, drop}
 use lib.Ieee.{Float, binary32, ofBits}
 use Rattle.relay_fsm.specs.declared.FoundEvent.{FoundEvent}
 use Rattle.relay_fsm.specs.declared.FoundEvent.the-variants.{Known, Unknown}
 use Rattle.relay_fsm.specs.Event.{eventAt}
 use Rattle.relay_batt.specs.declared.battery.Reading.{Reading}
 use Rattle.relay_batt.specs.declared.battery.Reading.the-variants.{Nothing, Volts, VoltsAmps}
-use Rattle.falcon_guidance.specs.declared.state.Point.{Point}
 use Rattle.falcon_failsafe.specs.declared.flight.Opening.{Opening}
 use Rattle.falcon_guidance.specs.declared.state.Tick.{Tick}
 use Rattle.falcon_core.specs.declared.supervisor.Supervisor.{Supervisor}
@@ -22,8 +21,10 @@ use Rattle.requests.specs.declared.kinds.FlightCall.{FlightCall}
 use Rattle.requests.specs.declared.kinds.FlightCall.the-variants.{Ticks, Reports, Commands}
 use Rattle.requests.specs.declared.kinds.OtherCall.{OtherCall}
 use Rattle.requests.specs.declared.kinds.OtherCall.the-variants.{Refused, Opens, Points, Zones, Totals}
-use Rattle.falcon_guidance.specs.State.{pointOf, pointNumbers, zoneNumbers}
+use Rattle.falcon_guidance.specs.State.{pointNumbers, zoneNumbers}
 use Rattle.falcon_core.specs.Calls.{Request, opens, ticks, reports, commands, plans, points, zones, totals, refusedOf, stepOf}
+use Rattle.columns.specs.Line.{numberAt, floatAt, flagAt}
+use Rattle.falcon_record.specs.From.{pointFrom}
 use Rattle.falcon_core.specs.Refusals.{unknownKind, wrongCount, outOfRange}
 
 -- what a line asks, or the refusal that fits it whatever the state
@@ -36,23 +37,9 @@ abbrev pub answeredBy : Supervisor → Asked → Answered
 answeredBy s (refuses n) = refusedOf s n
 answeredBy s (asks r) = stepOf s r
 
--- number k of a line
-abbrev pub numberAt : List ℕ → ℕ → ℕ
-numberAt ns k = getD ns k 0
-
--- "Floats are their bits as a number."
-abbrev pub floatAt : List ℕ → ℕ → Float
-floatAt ns k = ofBits binary32 (numberAt ns k)
-
-abbrev pub flagAt : List ℕ → ℕ → Bool
-flagAt ns k = eqb (numberAt ns k) 1
-
 -- "flag above 1"
 abbrev pub isFlag : List ℕ → ℕ → Bool
 isFlag ns k = leb (numberAt ns k) 1
-
-abbrev pub pointFrom : List ℕ → ℕ → Point
-pointFrom ns k = pointOf (floatAt ns k) (floatAt ns (k + 1)) (floatAt ns (k + 2))
 
 -- a line of so many fields in range, or 4, or 5
 abbrev pub fielded : List ℕ → ℕ → Bool → Asked → Asked

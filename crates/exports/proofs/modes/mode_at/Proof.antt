@@ -1,5 +1,5 @@
 use mathlib.Core.Path.{refl}
-use Rattle.exports.specs.Modes.{modeAt}
+use Rattle.relay_fsm.specs.Mode.{modeAt}
 use borrow.Author.Needs.{needs}
 use Rattle.exports.proofs.modes.mode_at.Statement.{statement}
 use Rattle.exports.proofs.modes.mode_at.Tie as tie

@@ -1,7 +1,7 @@
 use Prim.Native.Nat.{_*_}
 use native.Mathlib.Omega.{arith}
 use lib.Ieee.{binary32, ofBits}
-use Rattle.requests.specs.Kinds.{numberAt}
+use Rattle.columns.specs.Line.{numberAt}
 use Rattle.sheet.proofs.Floats.{lent-is}
 use borrow.Author.Needs.{needs}
 use Rattle.sheet.proofs.entry.list_floats.Statement.{statement}

@@ -4,7 +4,7 @@ use lib.IntN.{pos}
 use lib.Ieee.{Float, binary32, sub, div, ofInt}
 use borrow.Author.Needs.{needs}
 use Rattle.relay_batt.specs.Curve.{f32}
-use Rattle.relay_batt.specs.Config.{packCells, defaultOf, forOpeningVoltsOf}
+use Rattle.relay_batt.specs.Config.{packCells, defaultOf, forPackOf, forOpeningVoltsOf}
 use Rattle.relay_batt.specs.declared.config.BattConfig.{BattConfig}
 use Rattle.relay_batt.proofs.config.BattConfig.for_opening_volts.Statement.{statement}
 use Rattle.relay_batt.proofs.config.BattConfig.for_opening_volts.Tie as tie
@@ -27,7 +27,7 @@ joined : (volts : Float) {cells : Float} {d : BattConfig} → cells ≡ ofInt bi
       «crit_v_cell_fallback» = sub binary32 (div binary32 volts cells) (f32 0x3e19_999a);
       «debounce_s» = d .«debounce_s»;
     } ≡ forOpeningVoltsOf volts
-unfolding forOpeningVoltsOf
+unfolding forOpeningVoltsOf forPackOf defaultOf
 joined volts p q = simp (p, q)
 
 returns : tie.Need-returns
