@@ -9,7 +9,7 @@ use mathlib.Core.List.{List, [], _∷_, _++_, append-nil, append-assoc}
 use lib.ListN.{length, getD, set, take, drop, length-append, length-drop, length-replicate, replicate-append-replicate, take-append-drop}
 use lib.Seq.{length-take-le, drop-cons, set-at, take-at, drop-at, take-suc, take-length, drop-append-add, drop-drop}
 use Rattle.columns.specs.Field.{fieldWidth, pad, columns, fieldOf, spaces, put}
-use Rattle.columns.specs.Line.{lineOf, writtenOver}
+use Rattle.columns.specs.Line.{lineOf, writtenOver, putOver}
 use borrow.Author.Tests.{lt-ltb, le-ltb}
 use Rattle.columns.proofs.FieldAgain.{spaces-one, columns-none, columns-more, length-columns, length-field}
 
@@ -64,6 +64,24 @@ put-put d at s t h e =
     ap (λ (l : List ℕ). l ++ (t ++ drop (at + length t) (take at d ++ (s ++ drop (at + length s) d)))) front
     ∙ ap (λ (l : List ℕ). take at d ++ (t ++ l)) back
     ∙ ap (λ (k : ℕ). take at d ++ (t ++ drop (at + k) d)) e
+
+-- one number more
+pub put-next : (ns d : List ℕ) (at i : ℕ) → i < length ns → at + length ns ≤ length d → set (put d at (take i ns)) (at + i) (getD ns i 0) ≡ put d at (take (suc i) ns)
+put-next ns d at i h k =
+    let long : length (take i ns) ≡ i = length-take-le i ns (omega arith) in
+    ap (λ (n : ℕ). set (put d at (take i ns)) (at + n) (getD ns i 0)) (sym long)
+    ∙ put-more d at (take i ns) (getD ns i 0) (omega (arith, long))
+    ∙ ap (put d at) (sym (take-suc ns i 0 h))
+
+-- where there is room
+pub put-room : (ns a : List ℕ) (at : ℕ) → at + length ns ≤ length a → put a at ns ≡ putOver at ns a
+unfolding putOver
+put-room ns a at h = simp (le-ltb (length a) (at + length ns) h)
+
+-- and where there is none
+pub put-short : (ns a : List ℕ) (at : ℕ) → length a < at + length ns → a ≡ putOver at ns a
+unfolding putOver
+put-short ns a at h = simp (lt-ltb (length a) (at + length ns) h)
 
 -- ---- spaces
 

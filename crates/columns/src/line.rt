@@ -2,7 +2,7 @@
 
 ghost use mathlib.Core.Path.{_≡_};
 ghost use lib.ListN.{length};
-ghost use Rattle.columns.specs.Line.{lineAnswer, numbersOver};
+ghost use Rattle.columns.specs.Line.{lineAnswer, numbersOver, putOver};
 use crate::field::FIELD;
 use crate::field::FieldRead;
 use crate::field::read_field;
@@ -47,4 +47,21 @@ pub fn read_line(line: &[u8], limit: usize, numbers: &mut [u32]) -> LineRead
         k += 1;
     }
     LineRead::Numbers(k)
+}
+
+// These numbers in the array, from `at` on, where it has room for all of them; else nothing.
+pub fn put_numbers(numbers: &mut [u32], at: usize, part: &[u32])
+    ensures { λ _. ⌜ now (numbers .exit) ≡ putOver at (now (part .entry)) (now (numbers .entry)) ⌝ }
+{
+    if numbers.len() < part.len() {
+        return;
+    }
+    if numbers.len() - part.len() < at {
+        return;
+    }
+    let mut i = 0;
+    while i < part.len() {
+        numbers[at + i] = part[i];
+        i += 1;
+    }
 }

@@ -10,7 +10,8 @@ use lib.ListN.{length}
 use lib.Ieee.{Float}
 use Rattle.falcon_guidance.specs.declared.state.Point.{Point}
 use Rattle.falcon_core.specs.declared.supervisor.Supervisor.{Supervisor}
-use Rattle.falcon_core.specs.declared.calls.Output.the-variants.{Nothing, Totals}
+use Rattle.falcon_core.specs.declared.calls.Output.{Output}
+use Rattle.falcon_core.specs.declared.calls.Output.the-variants.{Nothing, Totals, Record}
 use Rattle.falcon_failsafe.specs.Flight.{withZones}
 use Rattle.falcon_guidance.specs.State.{pointNumbers, zoneNumbers}
 use Rattle.falcon_guidance.specs.Mission.{noPoints, triedOf, allAdmissibleOf}
@@ -21,9 +22,9 @@ use Rattle.falcon_failsafe.specs.declared.flight.Opening.{Opening}
 use Rattle.falcon_failsafe.specs.Flight.{openedOf}
 use Rattle.falcon_totals.specs.declared.DayTotals.{DayTotals}
 use Rattle.falcon_totals.specs.Totals.{noTotals}
-use Rattle.falcon_core.specs.Calls.{Request, opens, plans, points, zones, totals, miscounted, masksTooLarge, isOpening, isReport}
-use Rattle.falcon_core.specs.Refusals.{wrongCount, outOfRange, inadmissible}
-use Rattle.falcon_core.specs.Calls.{shapeRefusal, sequenceRefusal, stateRefusal, refusalOf, legsIn, startOf, startPoints, plannedOf, flightAfter, waypointsAfter, outputOf, totalsAfter, afterOf, refusedOf, acceptedOf, stepOf, withFlight, withPoints}
+use Rattle.falcon_core.specs.Calls.{Request, Planning, opens, plans, points, zones, totals, saves, miscounted, masksTooLarge, isOpening, isReport}
+use Rattle.falcon_core.specs.Refusals.{orElse, wrongCount, outOfRange, inadmissible}
+use Rattle.falcon_core.specs.Calls.{shapeRefusal, sequenceRefusal, stateRefusal, refusalOf, legsIn, startOf, startPoints, plannedOf, flightAfter, waypointsAfter, outputOf, totalsAfter, afterOf, refusedOf, acceptedOf, stepOf, toldOf, withFlight, withPoints}
 
 -- a refusal that fits is answered and keeps the state
 pub step-refused : (s : Supervisor) (r : Request) (n : ℕ) → refusalOf s r ≡ suc n → stepOf s r ≡ refusedOf s (suc n)
@@ -145,23 +146,47 @@ zones-accepted s l z ez c q =
     let d = in-sequence (s .opened) (s .«report_due») q .1 in
     rw (step-accepted s (plans (zones l)) h, ez, d)
 
--- the totals
-module _ (s : Supervisor) where
-  pub totals-unsequenced :
-      (n : ℕ) →
-      n ≡ sequenceRefusal (s .opened) (s .«report_due») false →
-      (n ≡ 0 → ⊥) →
-      refusedOf s n ≡ stepOf s (plans totals)
-  unfolding shapeRefusal
-  totals-unsequenced n = sequence-refused s (plans totals) n refl refl
+-- a call that changes nothing, by the sequence
+module _ (s : Supervisor) (out : Output) where
+  pub told-refused : (n : ℕ) → n ≡ sequenceRefusal (s .opened) (s .«report_due») false → (n ≡ 0 → ⊥) → refusedOf s n ≡ toldOf s out
+  unfolding toldOf
+  told-refused n e h = rw (← e, ne-eqb n 0 h)
 
-  -- an accepted call for them keeps the state
-  pub totals-kept : sequenceRefusal (s .opened) (s .«report_due») false ≡ 0 → afterOf s (plans totals) ≡ s
-  unfolding afterOf flightAfter waypointsAfter plannedOf outputOf totalsAfter
-  totals-kept q = rw (in-sequence (s .opened) (s .«report_due») q .1)
+  pub told-accepted : sequenceRefusal (s .opened) (s .«report_due») false ≡ 0 → acceptedOf s out ≡ toldOf s out
+  unfolding toldOf
+  told-accepted e = rw e
 
-  pub totals-accepted : sequenceRefusal (s .opened) (s .«report_due») false ≡ 0 → acceptedOf s Totals ≡ stepOf s (plans totals)
-  unfolding refusalOf shapeRefusal stateRefusal outputOf
-  totals-accepted q =
-      let h : refusalOf s (plans totals) ≡ 0 = rw q in
-      sym (step-accepted s (plans totals) h ∙ ap (λ (u : Supervisor). acceptedOf u Totals) (totals-kept q))
+-- what changes nothing: a call for the totals, or for the state
+pub data Telling : Planning → Output → Type 0 where
+  tells-totals : Telling totals Totals
+  tells-state : Telling saves Record
+
+-- accepted, it keeps the state
+pub told-after : (s : Supervisor) (p : Planning) (out : Output) → Telling p out → sequenceRefusal (s .opened) (s .«report_due») false ≡ 0 → afterOf s (plans p) ≡ s
+unfolding afterOf flightAfter waypointsAfter plannedOf outputOf totalsAfter
+told-after s _ _ tells-totals q = rw (in-sequence (s .opened) (s .«report_due») q .1)
+told-after s _ _ tells-state q = rw (in-sequence (s .opened) (s .«report_due») q .1)
+
+or-none : (n : ℕ) → orElse n 0 ≡ n
+or-none zero = refl
+or-none (suc n) = refl
+
+-- it is refused by the sequence alone, and answered with what it asks
+told-refusal : (s : Supervisor) (p : Planning) (out : Output) → Telling p out → refusalOf s (plans p) ≡ sequenceRefusal (s .opened) (s .«report_due») false
+unfolding refusalOf shapeRefusal stateRefusal
+told-refusal s _ _ tells-totals = or-none (sequenceRefusal (s .opened) (s .«report_due») false)
+told-refusal s _ _ tells-state = or-none (sequenceRefusal (s .opened) (s .«report_due») false)
+
+told-output : (s : Supervisor) (p : Planning) (out : Output) → Telling p out → outputOf (s .flight) (legsIn s) (plans p) ≡ out
+unfolding outputOf
+told-output s _ _ tells-totals = refl
+told-output s _ _ tells-state = refl
+
+told-by : (s : Supervisor) (p : Planning) (out : Output) (n : ℕ) → Telling p out → sequenceRefusal (s .opened) (s .«report_due») false ≡ n → toldOf s out ≡ stepOf s (plans p)
+unfolding toldOf
+told-by s p out zero t e =
+    rw e (sym (step-accepted s (plans p) (told-refusal s p out t ∙ e) ∙ (λ i. acceptedOf (told-after s p out t e i) (told-output s p out t i))))
+told-by s p out (suc n) t e = rw (e, eqb·suc-zero n) (sym (step-refused s (plans p) n (told-refusal s p out t ∙ e)))
+
+pub told-step : (s : Supervisor) (p : Planning) (out : Output) → Telling p out → toldOf s out ≡ stepOf s (plans p)
+told-step s p out t = told-by s p out _ t refl

@@ -15,7 +15,7 @@ use Rattle.falcon_flight.specs.declared.tick.TickAnswer.the-variants.{MotorsOff
 use Rattle.falcon_core.specs.Supervisor.{unopened}
 use Rattle.falcon_flight.specs.Setpoint.{motorsOffOf}
 use Rattle.falcon_flight.specs.Tick.{afterMilestone, holdingOf, endedOf, tickOf}
-use Rattle.falcon_core.specs.Calls.{Request, Planning, opens, ticks, reports, commands, plans, points, zones, totals, dueAfter, planOutput, reportDueAfter, refusalOf, legsIn, flightAfter, afterOf, outputOf, answerOf, acceptedOf, stepOf}
+use Rattle.falcon_core.specs.Calls.{Request, Planning, opens, ticks, reports, commands, plans, points, zones, totals, saves, dueAfter, planOutput, reportDueAfter, refusalOf, legsIn, flightAfter, afterOf, outputOf, answerOf, acceptedOf, stepOf}
 use Rattle.falcon_core.proofs.Answers.{step-accepted}
 use Rattle.falcon_core.proofs.Parts.{answered-due, tick-flight}
 
@@ -50,6 +50,7 @@ plan-none-due : (p : Planning) → reportDueAfter (planOutput p) ≡ false
 plan-none-due (points l) = refl
 plan-none-due (zones l) = refl
 plan-none-due totals = refl
+plan-none-due saves = refl
 
 due-flying : (s : Supervisor) (r : Request) → reportDueAfter (outputOf (s .flight) (legsIn s) r) ≡ true → FlyingTick s r
 unfolding outputOf

@@ -27,7 +27,7 @@ use Rattle.falcon_failsafe.specs.Failsafe.{clearedOf, breachedOf, runawayOf, wi
 use Rattle.falcon_flight.specs.Milestone.{milestoneOf}
 use Rattle.falcon_hold.specs.Hold.{holdsOf, holdRestMs, holdRestS, holdBrakeMaxS, horizSpeedOf, brakePointOf, enteredOf, restOf, brakedOf, leftOf, keptOf, heldOf}
 use Rattle.falcon_flight.specs.Tick.{checkedOf, poweredOf, telemetryOf, sensedOf, afterBreach, afterRunaway, afterWind, afterMilestone, holdingOf, tickOf}
-use Rattle.falcon_core.specs.Calls.{Request, Planning, opens, ticks, reports, commands, plans, points, zones, totals, commandedBy, legsIn, startOf, startPoints, pointsAfter, plannedOf, flightAfter, waypointsAfter, afterOf, stepOf}
+use Rattle.falcon_core.specs.Calls.{Request, Planning, opens, ticks, reports, commands, plans, points, zones, totals, saves, commandedBy, legsIn, startOf, startPoints, pointsAfter, plannedOf, flightAfter, waypointsAfter, afterOf, stepOf}
 use Rattle.falcon_core.specs.SoundState.{FitPoint, FitZone, FitHold, FitFlight, FitOpening, FitTick, Lent, LentPlan}
 use Rattle.falcon_core.proofs.Refused.{step-keeps}
 use Rattle.falcon_core.proofs.Parts.{cond-keeps, reported-keeps, tick-flight}
@@ -119,6 +119,7 @@ planned-fits f ws (zones zs) l k = record {
   hold = k .hold;
 }
 planned-fits f ws totals l k = k
+planned-fits f ws saves l k = k
 
 after-fits : (s : Supervisor) (r : Request) → Lent r → FitFlight (s .flight) (s .waypoints) → FitFlight (afterOf s r .flight) (afterOf s r .waypoints)
 unfolding afterOf flightAfter waypointsAfter startOf startPoints commandedBy

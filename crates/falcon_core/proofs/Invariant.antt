@@ -43,7 +43,7 @@ use Rattle.falcon_failsafe.specs.Preflight.{navRowsOf, integrityRowsOf, readine
 use Rattle.falcon_failsafe.specs.Failsafe.{modeAfter, clearedOf, breachGives, breachedOf, tiltedOf, tiltRunawayCycles, runawayCountOf, runawayEnough, runawayEvent, runawayCounted, runawayGives, runawayOf, windGives, windOf}
 use Rattle.falcon_flight.specs.Milestone.{arrivedOf, milestoneGives, legOf, milestoneOf}
 use Rattle.falcon_flight.specs.Tick.{checkedOf, poweredOf, telemetryOf, sensedOf, afterBreach, afterRunaway, afterWind, afterMilestone, holdingOf, tickOf}
-use Rattle.falcon_core.specs.Calls.{Request, Planning, opens, ticks, reports, commands, plans, points, zones, totals, planRefused, commandedBy, refusalOf, legsIn, startOf, startPoints, pointsAfter, plannedOf, flightAfter, waypointsAfter, afterOf, stepOf}
+use Rattle.falcon_core.specs.Calls.{Request, Planning, opens, ticks, reports, commands, plans, points, zones, totals, saves, planRefused, commandedBy, refusalOf, legsIn, startOf, startPoints, pointsAfter, plannedOf, flightAfter, waypointsAfter, afterOf, stepOf}
 use Rattle.falcon_core.specs.SoundState.{SoundChecks, SoundMission, SoundTilt, SoundFlight}
 use Rattle.falcon_guidance.proofs.Waypoints.{waypoint-within}
 use Rattle.falcon_core.proofs.Refused.{accepted-passed, step-keeps}
@@ -234,6 +234,7 @@ planned-sound f ps (points l) k e =
     record { checks = k .checks; mission = sound-loaded (f .config) l (rw t tt); zones = k .zones; tilt = k .tilt; battery = k .battery }
 planned-sound f ps (zones l) k e = record { checks = k .checks; mission = k .mission; zones = sound-zones-loaded l; tilt = k .tilt; battery = k .battery }
 planned-sound f ps totals k e = k
+planned-sound f ps saves k e = k
 
 -- an accepted call
 pub after-sound : (s : Supervisor) (r : Request) → SoundFlight (s .flight) (s .waypoints) → refusalOf s r ≡ 0 → SoundFlight (afterOf s r .flight) (afterOf s r .waypoints)

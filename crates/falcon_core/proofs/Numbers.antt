@@ -7,7 +7,7 @@ use Rattle.relay_fsm.specs.Mode.{modeNumber}
 use Rattle.relay_preflight.specs.Verdict.{blockerNumber}
 use Rattle.falcon_core.specs.declared.calls.Answer.{Answer}
 use Rattle.falcon_core.specs.declared.calls.Output.{Output}
-use Rattle.falcon_core.specs.declared.calls.Output.the-variants.{Nothing, Ticks, Totals}
+use Rattle.falcon_core.specs.declared.calls.Output.the-variants.{Nothing, Ticks, Totals, Record}
 use Rattle.falcon_flight.specs.declared.tick.TickAnswer.the-variants.{MotorsOff, Setpoint}
 use Rattle.falcon_core.specs.Calls.{answerFields, outputNumbers, numbersOf}
 
@@ -15,6 +15,7 @@ use Rattle.falcon_core.specs.Calls.{answerFields, outputNumbers, numbers
 pub output-count : (o : Output) → length (outputNumbers o) ≡ 6
 output-count Nothing = refl
 output-count Totals = refl
+output-count Record = refl
 output-count (Ticks MotorsOff) = refl
 output-count (Ticks (Setpoint ned landing rearm)) = refl
 
@@ -26,6 +27,7 @@ behind-output : (o : Output) (n m x y : ℕ)
     → (getD (n ∷ m ∷ (outputNumbers o ++ (x ∷ y ∷ []))) 8 0 ≡ x) × (getD (n ∷ m ∷ (outputNumbers o ++ (x ∷ y ∷ []))) 9 0 ≡ y)
 behind-output Nothing n m x y = (refl, refl)
 behind-output Totals n m x y = (refl, refl)
+behind-output Record n m x y = (refl, refl)
 behind-output (Ticks MotorsOff) n m x y = (refl, refl)
 behind-output (Ticks (Setpoint ned landing rearm)) n m x y = (refl, refl)
 

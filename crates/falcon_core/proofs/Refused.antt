@@ -6,11 +6,12 @@ use mathlib.Core.Path.{_≡_, refl, sym, ap, _∙_}
 use Rattle.relay_preflight.specs.Table.{outstandingOf}
 use Rattle.relay_preflight.specs.Verdict.{firstBlockerOf}
 use Rattle.falcon_core.specs.declared.supervisor.Supervisor.{Supervisor}
+use Rattle.falcon_core.specs.declared.calls.Output.{Output}
 use Rattle.falcon_core.specs.declared.calls.Output.the-variants.{Nothing}
 use Rattle.falcon_core.specs.declared.calls.Answered.{Answered}
 use Rattle.falcon_core.specs.Refusals.{orElse, inadmissible}
-use Rattle.falcon_core.specs.Calls.{Request, miscounted, masksTooLarge, isOpening, isReport, pointRefused, shapeRefusal, sequenceRefusal, stateRefusal, refusalOf, afterOf, answerOf, refusedOf, acceptedOf, stepOf}
-use Rattle.falcon_core.proofs.Answers.{step-refused, step-accepted}
+use Rattle.falcon_core.specs.Calls.{Request, Planning, plans, miscounted, masksTooLarge, isOpening, isReport, pointRefused, shapeRefusal, sequenceRefusal, stateRefusal, refusalOf, afterOf, answerOf, refusedOf, acceptedOf, stepOf}
+use Rattle.falcon_core.proofs.Answers.{step-refused, step-accepted, Telling, tells-totals, tells-state, told-after}
 
 -- ---- refused calls
 
@@ -79,6 +80,15 @@ accepted-passed s r e =
 pub passed-accepted : (s : Supervisor) (r : Request) → Passed s r → refusalOf s r ≡ 0
 unfolding refusalOf shapeRefusal stateRefusal
 passed-accepted s r p = rw (p .counted, p .in-range, p .in-sequence, p .admissible)
+
+told-passed : (s : Supervisor) (p : Planning) (out : Output) → Telling p out → Passed s (plans p) → sequenceRefusal (s .opened) (s .«report_due») false ≡ 0
+told-passed s _ _ tells-totals k = k .in-sequence
+told-passed s _ _ tells-state k = k .in-sequence
+
+-- a call for the totals or for the state keeps the whole state, accepted or refused
+pub told-keeps : (s : Supervisor) (p : Planning) (out : Output) → Telling p out → stepOf s (plans p) .supervisor ≡ s
+told-keeps s p out t =
+    step-keeps s (plans p) (λ (u : Supervisor). u ≡ s) refl (λ e. told-after s p out t (told-passed s p out t (accepted-passed s (plans p) e)))
 
 -- ---- the table's rows 1, 6 and 7, of a call that is no opening
 

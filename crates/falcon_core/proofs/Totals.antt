@@ -5,17 +5,8 @@ use mathlib.Core.Path.{_≡_, refl, _∙_}
 use Rattle.falcon_totals.specs.declared.DayTotals.{DayTotals}
 use Rattle.falcon_core.specs.declared.supervisor.Supervisor.{Supervisor}
 use Rattle.falcon_core.specs.declared.calls.Answered.{Answered}
-use Rattle.falcon_core.specs.Calls.{Request, opens, ticks, reports, commands, plans, totals, isOpening, refusalOf, stateRefusal, legsIn, flightAfter, waypointsAfter, outputOf, reportDueAfter, afterOf, answerOf, refusedOf, acceptedOf, stepOf}
-use Rattle.falcon_core.proofs.Answers.{step-refused, step-accepted, totals-kept}
-use Rattle.falcon_core.proofs.Refused.{accepted-passed, step-keeps}
-
--- ---- the call for the totals
-
--- it keeps the whole state, accepted or refused
-pub totals-keep : (s : Supervisor) → stepOf s (plans totals) .supervisor ≡ s
-totals-keep s = step-keeps s (plans totals) (λ (u : Supervisor). u ≡ s) refl (λ e. totals-kept s (accepted-passed s (plans totals) e .in-sequence))
-
--- ---- the rest of the state
+use Rattle.falcon_core.specs.Calls.{Request, opens, ticks, reports, commands, plans, isOpening, refusalOf, stateRefusal, legsIn, flightAfter, waypointsAfter, outputOf, reportDueAfter, afterOf, answerOf, refusedOf, acceptedOf, stepOf}
+use Rattle.falcon_core.proofs.Answers.{step-refused, step-accepted}
 
 -- the state with these totals for its own
 abbrev pub withTotals : Supervisor → DayTotals → Supervisor

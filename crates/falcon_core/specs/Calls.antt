@@ -24,7 +24,7 @@ use Rattle.falcon_core.specs.declared.supervisor.Supervisor.{Supervisor}
 use Rattle.falcon_flight.specs.declared.tick.TickAnswer.{TickAnswer}
 use Rattle.falcon_flight.specs.declared.tick.TickAnswer.the-variants.{MotorsOff, Setpoint}
 use Rattle.falcon_core.specs.declared.calls.Output.{Output}
-use Rattle.falcon_core.specs.declared.calls.Output.the-variants.{Nothing, Ticks, Totals}
+use Rattle.falcon_core.specs.declared.calls.Output.the-variants.{Nothing, Ticks, Totals, Record}
 use Rattle.falcon_core.specs.declared.calls.Answer.{Answer}
 use Rattle.falcon_core.specs.declared.calls.Answered.{Answered}
 use Rattle.falcon_core.specs.declared.calls.FlightAnswered.{FlightAnswered}
@@ -38,12 +38,13 @@ use Rattle.falcon_totals.specs.declared.DayTotals.{DayTotals}
 use Rattle.falcon_totals.specs.Totals.{noTotals, countedOf}
 use Rattle.falcon_core.specs.Refusals.{orElse, wrongCount, outOfRange, noOpening, reportDue, noReportDue, inadmissible}
 
--- what the planner asks between ticks: points (three numbers each), zones (four numbers each) or the day totals. It leaves the mode, the battery, the
--- counts and the configuration as they are
+-- what the planner asks between ticks: points (three numbers each), zones (four numbers each), the day totals or the state itself. It leaves the mode,
+-- the battery, the counts and the configuration as they are
 pub data Planning : Type 0 where
   points : List Float → Planning
   zones : List Float → Planning
   totals : Planning
+  saves : Planning
 
 -- what a call asks: an opening, a tick, a report (failed), a command (event, level, low throttle) or what the planner asks
 pub data Request : Type 0 where
@@ -58,6 +59,7 @@ abbrev pub miscountedPlan : Planning → Bool
 miscountedPlan (points l) = not (eqb (length l % pointNumbers) 0)
 miscountedPlan (zones l) = not (eqb (length l % zoneNumbers) 0)
 miscountedPlan totals = false
+miscountedPlan saves = false
 
 abbrev pub miscounted : Request → Bool
 miscounted (opens o) = false
@@ -94,6 +96,7 @@ abbrev pub planRefused : FlightSupervisor → Planning → Bool
 planRefused f (points l) = not (allAdmissibleOf (f .config) l (triedOf l))
 planRefused f (zones l) = false
 planRefused f totals = false
+planRefused f saves = false
 
 abbrev pub pointRefused : Supervisor → Request → Bool
 pointRefused s (opens o) = false
@@ -154,16 +157,19 @@ abbrev pub pointsAfter : List Point → Planning → List Point
 pointsAfter ps (points l) = loadedPointsOf l
 pointsAfter ps (zones l) = ps
 pointsAfter ps totals = ps
+pointsAfter ps saves = ps
 
 abbrev pub missionAfter : FlightSupervisor → Planning → Mission
 missionAfter f (points l) = loadedOf l
 missionAfter f (zones l) = f .mission
 missionAfter f totals = f .mission
+missionAfter f saves = f .mission
 
 abbrev pub zonesAfter : FlightSupervisor → Planning → Zones
 zonesAfter f (points l) = f .zones
 zonesAfter f (zones l) = loadedZonesOf l
 zonesAfter f totals = f .zones
+zonesAfter f saves = f .zones
 
 -- the flight after what the planner asks
 unfoldable pub plannedOf : FlightSupervisor → Planning → FlightSupervisor
@@ -190,6 +196,7 @@ abbrev pub planOutput : Planning → Output
 planOutput (points l) = Nothing
 planOutput (zones l) = Nothing
 planOutput totals = Totals
+planOutput saves = Record
 
 -- what an accepted call answers beside the mode and the checks
 unfoldable pub outputOf : FlightSupervisor → Legs → Request → Output
@@ -204,6 +211,7 @@ abbrev pub reportDueAfter : Output → Bool
 reportDueAfter Nothing = false
 reportDueAfter (Ticks answer) = dueAfter answer
 reportDueAfter Totals = false
+reportDueAfter Record = false
 
 -- the day totals after an accepted call that began and ended in these modes: "Totals start at zero with the opening"
 unfoldable pub totalsAfter : DayTotals → Mode → Mode → Request → DayTotals
@@ -246,6 +254,12 @@ acceptedOf s out = record { supervisor = s; answer = answerOf (s .flight) 0 out 
 unfoldable pub stepOf : Supervisor → Request → Answered
 stepOf s r = cond (eqb (refusalOf s r) 0) (acceptedOf (afterOf s r) (outputOf (s .flight) (legsIn s) r)) (refusedOf s (refusalOf s r))
 
+-- a call in sequence that changes nothing and is answered with this; else 1 or 6
+unfoldable pub toldOf : Supervisor → Output → Answered
+toldOf s out =
+    cond (eqb (sequenceRefusal (s .opened) (s .«report_due») false) 0) (acceptedOf s out)
+    (refusedOf s (sequenceRefusal (s .opened) (s .«report_due») false))
+
 -- ---- a tick, a report or a command: what it leaves of the flight, without the waypoints
 
 -- a refusal keeps the flight, and whether a report is due
@@ -279,6 +293,7 @@ abbrev pub isTick : Output → Bool
 isTick Nothing = false
 isTick (Ticks answer) = true
 isTick Totals = false
+isTick Record = false
 
 -- the day totals after a tick, a report or a command that began in this mode and was answered so: a refused one ends in the mode it began in
 abbrev pub totalsBeside : DayTotals → Mode → Answer → DayTotals
@@ -308,6 +323,7 @@ flag false = 0
 abbrev pub outputNumbers : Output → List ℕ
 outputNumbers Nothing = 0 ∷ 0 ∷ 0 ∷ 0 ∷ 0 ∷ 0 ∷ []
 outputNumbers Totals = 0 ∷ 0 ∷ 0 ∷ 0 ∷ 0 ∷ 0 ∷ []
+outputNumbers Record = 0 ∷ 0 ∷ 0 ∷ 0 ∷ 0 ∷ 0 ∷ []
 outputNumbers (Ticks MotorsOff) = 0 ∷ 1 ∷ 0 ∷ 0 ∷ 0 ∷ 0 ∷ []
 outputNumbers (Ticks (Setpoint ned landing rearm)) =
     flag landing ∷ 0 ∷ flag rearm ∷ toBits binary32 (ned .x) ∷ toBits binary32 (ned .y) ∷ toBits binary32 (ned .z) ∷ []

@@ -28,7 +28,7 @@ use Rattle.falcon_guidance.specs.State.{origin, noZone, nowhere, maxWaypoints, 
 use Rattle.falcon_guidance.specs.Mission.{waypointAdmissibleOf}
 use Rattle.falcon_guidance.specs.Zones.{noPlace}
 use Rattle.falcon_failsafe.specs.Failsafe.{tiltRunawayCycles}
-use Rattle.falcon_core.specs.Calls.{Request, Planning, opens, ticks, reports, commands, plans, points, zones, totals}
+use Rattle.falcon_core.specs.Calls.{Request, Planning, opens, ticks, reports, commands, plans, points, zones, totals, saves}
 
 -- ---- an array of which the first `count` places are in use
 
@@ -196,6 +196,7 @@ abbrev pub LentPlan : Planning → Type 0
 LentPlan (points l) = (i : ℕ) → Fit (getD l i nan)
 LentPlan (zones l) = (i : ℕ) → Fit (getD l i nan)
 LentPlan totals = Unit {0}
+LentPlan saves = Unit {0}
 
 -- those of a call that the state keeps: every lent f32 is one
 abbrev pub Lent : Request → Type 0

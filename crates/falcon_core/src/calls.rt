@@ -1,7 +1,7 @@
 // The calls by lent values. Each takes the state and gives the state after it with its answer.
 ghost use mathlib.Core.Path.{_≡_};
-ghost use Rattle.falcon_core.specs.Calls.{opens, ticks, reports, commands, plans, points, zones, totals, sequenceRefusal, allowedOf, commandedBy, dueAfter, answerOf, refusedOf, acceptedOf};
-ghost use Rattle.falcon_core.specs.Calls.{stepOf, flightRefusedOf, flightAcceptedOf, noLegs, flightStepOf, isTick, totalsBeside, besideOf, withPoints, flag, numbersOf};
+ghost use Rattle.falcon_core.specs.Calls.{opens, ticks, reports, commands, plans, points, zones, totals, saves, sequenceRefusal, allowedOf, commandedBy, dueAfter, answerOf, refusedOf, acceptedOf};
+ghost use Rattle.falcon_core.specs.Calls.{stepOf, toldOf, flightRefusedOf, flightAcceptedOf, noLegs, flightStepOf, isTick, totalsBeside, besideOf, withPoints, flag, numbersOf};
 use crate::supervisor::Supervisor;
 use falcon_failsafe::failsafe::reported;
 use falcon_failsafe::flight::FlightSupervisor;
@@ -27,11 +27,12 @@ use relay_preflight::CheckTable;
 use relay_preflight::TableVerdict;
 use relay_preflight::arm_check_table;
 
-// What an answer holds beside the mode and the checks: nothing, a tick's answer, or the totals of the state.
+// What an answer holds beside the mode and the checks: nothing, a tick's answer, the totals of the state, or the whole of it.
 pub enum Output {
     Nothing,
     Ticks(TickAnswer),
     Totals,
+    Record,
 }
 
 // The answer to a call.
@@ -69,7 +70,7 @@ impl Answer {
     pub const SHORT_BUFFER: u32 = 9;
     // Not a sheet line.
     pub const NOT_A_LINE: u32 = 2;
-    // The kind is not 1..7.
+    // The kind is not 1..8.
     pub const UNKNOWN_KIND: u32 = 3;
     // A wrong field count; lent points not three each, or zones not four each.
     pub const WRONG_COUNT: u32 = 4;
@@ -97,6 +98,7 @@ impl Answer {
         match output {
             Output::Nothing => [self.refusal, m, 0, 0, 0, 0, 0, 0, o, b],
             Output::Totals => [self.refusal, m, 0, 0, 0, 0, 0, 0, o, b],
+            Output::Record => [self.refusal, m, 0, 0, 0, 0, 0, 0, o, b],
             Output::Ticks(answer) => match answer {
                 TickAnswer::MotorsOff => [self.refusal, m, 0, 1, 0, 0, 0, 0, o, b],
                 TickAnswer::Setpoint {
@@ -121,7 +123,7 @@ impl Answer {
 }
 
 // 0 or 1.
-fn number(b: bool) -> u32
+pub fn number(b: bool) -> u32
     ensures { λ r. ⌜ r ≡ flag b ⌝ }
 {
     if b {
@@ -310,6 +312,7 @@ fn is_tick(output: Output) -> bool
         Output::Nothing => false,
         Output::Ticks(_) => true,
         Output::Totals => false,
+        Output::Record => false,
     }
 }
 
@@ -341,6 +344,17 @@ fn beside(s: Supervisor, told: FlightAnswered) -> Answered
         supervisor: next,
         answer,
     }
+}
+
+// A call that changes nothing, if it is in sequence.
+fn told(s: Supervisor, output: Output) -> Answered
+    ensures { λ r. ⌜ r ≡ toldOf s output ⌝ }
+{
+    let refusal = sequence_refusal(s.opened, s.report_due, false);
+    if refusal != Answer::ACCEPTED {
+        return refused(s, refusal);
+    }
+    accepted(s, output)
 }
 
 // The state with this list of waypoints for the old one.
@@ -460,10 +474,13 @@ impl Supervisor {
     pub fn totals(self) -> Answered
         ensures { λ r. ⌜ r ≡ stepOf self (plans totals) ⌝ }
     {
-        let refusal = sequence_refusal(self.opened, self.report_due, false);
-        if refusal != Answer::ACCEPTED {
-            return refused(self, refusal);
-        }
-        accepted(self, Output::Totals)
+        told(self, Output::Totals)
+    }
+
+    // The state, which the answer has.
+    pub fn save(self) -> Answered
+        ensures { λ r. ⌜ r ≡ stepOf self (plans saves) ⌝ }
+    {
+        told(self, Output::Record)
     }
 }

@@ -1,1 +1,269 @@
-// The record: the state of a supervisor as the columns of a line of kind 9.
+// The record: the state of a supervisor as the columns of a line of kind 9, which docs/RECORD.md lists.
+ghost use mathlib.Core.Path.{_≡_};
+ghost use mathlib.Core.Bool.{false};
+ghost use Prim.Native.Nat.{_<_};
+ghost use Rattle.falcon_guidance.specs.State.{origin, noZone, nowhere, maxWaypoints, maxKeepoutZones};
+ghost use Rattle.falcon_guidance.specs.Zones.{noPlace};
+ghost use Rattle.falcon_record.specs.Columns.{configColumns, checkColumns, estimatorColumns, shownColumns, silenceColumns, holdColumns, countColumns, useColumns};
+ghost use Rattle.falcon_record.specs.Columns.{scalarColumns, placeIn, pointColumns, zoneColumns, pointsColumns, zonesColumns};
+ghost use Rattle.falcon_record.specs.Saved.{writtenForm, columnsOf, saveStep, savedOver};
+use columns::line::put_numbers;
+use falcon_core::calls::Answer;
+use falcon_core::calls::Answered;
+use falcon_core::calls::number;
+use falcon_core::calls::refused;
+use falcon_core::supervisor::Supervisor;
+use falcon_failsafe::flight::FlightSupervisor;
+use falcon_guidance::state::Config;
+use falcon_guidance::state::Hold;
+use falcon_guidance::state::Point;
+use falcon_guidance::state::Zone;
+use falcon_guidance::state::Zones;
+use relay_batt::BattState;
+use relay_batt::Battery;
+use relay_batt::BatteryEstimator;
+use relay_math::to_bits;
+
+// The kind of the line whose columns these are.
+const RECORD_KIND: u32 = 9;
+
+// The columns before the first point, those of the points and those of the zones.
+const SCALARS: usize = 55;
+
+const POINTS: usize = Point::NUMBERS * Point::MAX_WAYPOINTS;
+
+const ZONES: usize = Zone::NUMBERS * Zone::MAX_KEEPOUT_ZONES;
+
+// The columns of a record.
+pub const RECORD_FIELDS: usize = SCALARS + POINTS + ZONES;
+
+// The fields that a line of kind 9 may have: a buffer or an array for a record has room for so many.
+pub const RECORD_ROOM: usize = 160;
+
+// Home, fence, cruise height, opening volts, cells, calibration.
+fn config_numbers(c: Config, cells: u32) -> [u32; 8]
+    ensures { λ r. ⌜ r ≡ configColumns c cells ⌝ }
+{
+    [
+        to_bits(c.home.x),
+        to_bits(c.home.y),
+        to_bits(c.home.z),
+        to_bits(c.fence_radius),
+        to_bits(c.cruise_alt),
+        to_bits(c.low_batt_v),
+        cells,
+        number(c.calibration_configured),
+    ]
+}
+
+// The masks and the mode.
+fn check_numbers(f: FlightSupervisor) -> [u32; 3]
+    ensures { λ r. ⌜ r ≡ checkColumns f ⌝ }
+{
+    let table = f.check_table;
+    let fsm = f.fsm;
+    let mode = fsm.mode;
+    [table.required, table.passed, mode.number()]
+}
+
+// Used, resistance, volts and amps before and whether there were any, and the two latches with their seconds below.
+fn estimator_numbers(e: BatteryEstimator) -> [u32; 9]
+    ensures { λ r. ⌜ r ≡ estimatorColumns e ⌝ }
+{
+    [
+        to_bits(e.consumed_mah),
+        to_bits(e.r_est),
+        to_bits(e.prev_v),
+        to_bits(e.prev_i),
+        number(e.have_prev),
+        to_bits(e.low.below_s),
+        number(e.low.latched),
+        to_bits(e.critical.below_s),
+        number(e.critical.latched),
+    ]
+}
+
+// The battery state shown.
+fn shown_numbers(s: BattState) -> [u32; 9]
+    ensures { λ r. ⌜ r ≡ shownColumns s ⌝ }
+{
+    [
+        to_bits(s.volts),
+        to_bits(s.rest_volts),
+        to_bits(s.current_a),
+        to_bits(s.consumed_mah),
+        to_bits(s.soc),
+        to_bits(s.r_est),
+        number(s.low),
+        number(s.critical),
+        number(s.degraded),
+    ]
+}
+
+// The silence, whether the last tick had a reading, whether any had.
+fn silence_numbers(b: Battery) -> [u32; 3]
+    ensures { λ r. ⌜ r ≡ silenceColumns b ⌝ }
+{
+    [to_bits(b.missing_s), number(b.present), number(b.seen)]
+}
+
+// The hold point, the regime, braking and its two times.
+fn hold_numbers(h: Hold) -> [u32; 6]
+    ensures { λ r. ⌜ r ≡ holdColumns h ⌝ }
+{
+    [
+        to_bits(h.hold_xy.x),
+        to_bits(h.hold_xy.y),
+        number(h.hold_regime),
+        number(h.hold_braking),
+        to_bits(h.brake_s),
+        to_bits(h.brake_rest_s),
+    ]
+}
+
+// The tilt and wind counts, the failsafe latch, the motors.
+fn count_numbers(f: FlightSupervisor) -> [u32; 4]
+    ensures { λ r. ⌜ r ≡ countColumns f ⌝ }
+{
+    [
+        f.counts.runaway_count,
+        f.counts.wind_count,
+        number(f.rtl_latched),
+        number(f.motors_were_off),
+    ]
+}
+
+// Point count, leg, zone count.
+fn use_numbers(f: FlightSupervisor) -> [u32; 3]
+    ensures { λ r. ⌜ r ≡ useColumns f ⌝ }
+{
+    [
+        f.mission.wp_count,
+        f.mission.wp_index,
+        f.zones.zone_count,
+    ]
+}
+
+// The columns before the first point.
+fn scalar_numbers(s: Supervisor) -> [u32; SCALARS]
+    ensures { λ r. ⌜ r ≡ scalarColumns s ⌝ }
+{
+    let f = s.flight;
+    let config = f.config;
+    let battery = f.battery;
+    let est = battery.est;
+    let state = battery.state;
+    let hold = f.hold;
+    let totals = s.totals;
+    let mut numbers = [0u32; SCALARS];
+    numbers[0] = RECORD_KIND;
+    put_numbers(&mut numbers, 1, &config_numbers(config, est.cfg.cells));
+    put_numbers(&mut numbers, 9, &check_numbers(f));
+    put_numbers(&mut numbers, 12, &estimator_numbers(est));
+    put_numbers(&mut numbers, 21, &shown_numbers(state));
+    put_numbers(&mut numbers, 30, &silence_numbers(battery));
+    put_numbers(&mut numbers, 33, &hold_numbers(hold));
+    put_numbers(&mut numbers, 39, &count_numbers(f));
+    put_numbers(&mut numbers, 43, &totals.numbers());
+    put_numbers(&mut numbers, 52, &use_numbers(f));
+    numbers
+}
+
+// Three numbers a point.
+fn point_numbers(p: Point) -> [u32; Point::NUMBERS]
+    ensures { λ r. ⌜ r ≡ pointColumns p ⌝ }
+{
+    [to_bits(p.x), to_bits(p.y), to_bits(p.z)]
+}
+
+// Place i of the points, and the origin where it is not in use.
+fn point_in(waypoints: [Point; Point::MAX_WAYPOINTS], count: u32, i: usize) -> Point
+    requires { ⌜ i < maxWaypoints ⌝ }
+    ensures { λ r. ⌜ r ≡ placeIn nowhere origin waypoints count i ⌝ }
+{
+    if i < count as usize {
+        return waypoints[i];
+    }
+    Point::origin()
+}
+
+// The columns of the points.
+fn points_numbers(s: Supervisor) -> [u32; POINTS]
+    ensures { λ r. ⌜ r ≡ pointsColumns writtenForm s ⌝ }
+{
+    let mission = s.flight.mission;
+    let waypoints = s.waypoints;
+    let mut numbers = [0u32; POINTS];
+    let mut i = 0;
+    while i < Point::MAX_WAYPOINTS {
+        let p = point_in(waypoints, mission.wp_count, i);
+        put_numbers(&mut numbers, Point::NUMBERS * i, &point_numbers(p));
+        i += 1;
+    }
+    numbers
+}
+
+// Centre and radius.
+fn zone_numbers(z: Zone) -> [u32; Zone::NUMBERS]
+    ensures { λ r. ⌜ r ≡ zoneColumns false 0 z ⌝ }
+{
+    [
+        to_bits(z.center.x),
+        to_bits(z.center.y),
+        to_bits(z.center.z),
+        to_bits(z.radius),
+    ]
+}
+
+// Place i of the zones, and no zone where it is not in use.
+fn zone_in(zones: [Zone; Zone::MAX_KEEPOUT_ZONES], count: u32, i: usize) -> Zone
+    requires { ⌜ i < maxKeepoutZones ⌝ }
+    ensures { λ r. ⌜ r ≡ placeIn noPlace noZone zones count i ⌝ }
+{
+    if i < count as usize {
+        return zones[i];
+    }
+    Zone::none()
+}
+
+// The columns of the zones.
+fn zones_numbers(zs: Zones) -> [u32; ZONES]
+    ensures { λ r. ⌜ r ≡ zonesColumns writtenForm zs ⌝ }
+{
+    let zones = zs.zones;
+    let mut numbers = [0u32; ZONES];
+    let mut i = 0;
+    while i < Zone::MAX_KEEPOUT_ZONES {
+        let z = zone_in(zones, zs.zone_count, i);
+        put_numbers(&mut numbers, Zone::NUMBERS * i, &zone_numbers(z));
+        i += 1;
+    }
+    numbers
+}
+
+// The state as the columns of a line of kind 9.
+pub fn record_columns(s: Supervisor) -> [u32; RECORD_FIELDS]
+    ensures { λ r. ⌜ r ≡ columnsOf s ⌝ }
+{
+    let zones = s.flight.zones;
+    let mut numbers = [0u32; RECORD_FIELDS];
+    put_numbers(&mut numbers, 0, &scalar_numbers(s));
+    put_numbers(&mut numbers, SCALARS, &points_numbers(s));
+    put_numbers(&mut numbers, SCALARS + POINTS, &zones_numbers(zones));
+    numbers
+}
+
+// The state by values: the array takes the columns. Under 160 places nothing is put and the refusal is 9.
+pub fn save(s: Supervisor, numbers: &mut [u32]) -> Answered
+    ensures answered { λ r. ⌜ r ≡ saveStep s (now (numbers .entry)) ⌝ }
+    ensures array { λ _. ⌜ now (numbers .exit) ≡ savedOver s (now (numbers .entry)) ⌝ }
+{
+    if numbers.len() < RECORD_ROOM {
+        return refused(s, Answer::SHORT_BUFFER);
+    }
+    let saved = s.save();
+    if saved.answer.refusal == Answer::ACCEPTED {
+        put_numbers(numbers, 0, &record_columns(s));
+    }
+    saved
+}

@@ -41,11 +41,14 @@ pub enum OtherCall {
     Points,
     Zones,
     Totals,
+    Saves,
 }
 
 impl Kind {
-    // The kind of a line that asks for the totals: its answer needs more room.
+    // The kinds of lines whose answers need more room: one asks for the totals, one for the state.
     pub const TOTALS: u32 = 7;
+
+    pub const SAVES: u32 = 8;
 
     // The fields of a line of each kind.
     pub const OPENING_FIELDS: usize = 10;
@@ -57,6 +60,8 @@ impl Kind {
     pub const COMMAND_FIELDS: usize = 4;
 
     pub const TOTALS_FIELDS: usize = 1;
+
+    pub const SAVES_FIELDS: usize = 1;
     // The fields before the points or zones of a line: the kind, and how many follow.
     pub const LIST_HEAD: usize = 2;
 }
@@ -274,6 +279,16 @@ fn totals_line(ns: &[u32]) -> Kind
     Kind::Other(OtherCall::Totals)
 }
 
+// A line of kind 8.
+fn saves_line(ns: &[u32]) -> Kind
+    ensures { λ r. ⌜ Says r (now (ns .entry)) (savesLine (now (ns .entry))) ⌝ }
+{
+    if ns.len() != Kind::SAVES_FIELDS {
+        return Kind::Other(OtherCall::Refused(Answer::WRONG_COUNT));
+    }
+    Kind::Other(OtherCall::Saves)
+}
+
 // What the numbers of a line ask, by its kind.
 pub(crate) fn kind_of(ns: &[u32]) -> Kind
     requires { ⌜ 0 < length (now ns) ⌝ }
@@ -300,6 +315,9 @@ pub(crate) fn kind_of(ns: &[u32]) -> Kind
     }
     if kind == Kind::TOTALS {
         return totals_line(ns);
+    }
+    if kind == Kind::SAVES {
+        return saves_line(ns);
     }
     Kind::Other(OtherCall::Refused(Answer::UNKNOWN_KIND))
 }

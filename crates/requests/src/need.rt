@@ -7,9 +7,13 @@ use crate::kinds::Kind;
 use columns::field::FIELD;
 use columns::field::read_kind;
 use falcon_core::calls::Answer;
+use falcon_record::RECORD_ROOM;
+
+// The fields that an answer with the state needs: room for a record of every form that its line may have.
+const WITH_RECORD: usize = Answer::FIELDS + RECORD_ROOM;
 
 // The bytes that the answer to a line of any kind needs at most.
-const MOST_NEED: usize = FIELD * Answer::WITH_TOTALS;
+const MOST_NEED: usize = FIELD * WITH_RECORD;
 
 // How many fields the answer to a line of this kind needs.
 fn need_fields(kind: u64) -> usize
@@ -17,6 +21,9 @@ fn need_fields(kind: u64) -> usize
 {
     if kind == Kind::TOTALS as u64 {
         return Answer::WITH_TOTALS;
+    }
+    if kind == Kind::SAVES as u64 {
+        return WITH_RECORD;
     }
     Answer::FIELDS
 }

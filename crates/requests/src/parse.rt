@@ -15,9 +15,10 @@ use columns::line::LINE_FIELDS;
 use columns::line::LineRead;
 use columns::line::read_line;
 use falcon_core::calls::Answer;
+use falcon_record::RECORD_ROOM;
 
 // The most fields of a line of any kind.
-pub const MOST_FIELDS: usize = LINE_FIELDS;
+pub const MOST_FIELDS: usize = RECORD_ROOM;
 
 // The bytes that a line of every kind may have.
 const ORDINARY: usize = FIELD * LINE_FIELDS;

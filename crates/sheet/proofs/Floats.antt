@@ -24,14 +24,6 @@ module _ {A : Type 0} (f : ℕ → A) where
   mapped-next (n ∷ ns) (x ∷ d) (suc i) h k =
       ap {B = List A} (λ l. f n ∷ l) (mapped-next ns d i (le-of-suc-le-suc h) (le-of-suc-le-suc k))
 
--- one number more put
-pub put-next : (ns d : List ℕ) (at i : ℕ) → i < length ns → at + length ns ≤ length d → set (put d at (take i ns)) (at + i) (getD ns i 0) ≡ put d at (take (suc i) ns)
-put-next ns d at i h k =
-    let long : length (take i ns) ≡ i = length-take-le i ns (omega arith) in
-    ap (λ (n : ℕ). set (put d at (take i ns)) (at + n) (getD ns i 0)) (sym long)
-    ∙ put-more d at (take i ns) (getD ns i 0) (omega (arith, long))
-    ∙ ap (put d at) (sym (take-suc ns i 0 h))
-
 -- so many floats, read from a line's part
 pub lent-is :
     {A : Type 0} (f : ℕ → A) (ns : List ℕ) (m : ℕ) (d last : List A) →

@@ -13,6 +13,7 @@ ghost use Rattle.requests.specs.Parse.{mostFields, askedLine};
 ghost use Rattle.requests.specs.ByLine.{totalsAnswer, lineStep, bufferAfter};
 ghost use Rattle.sheet.specs.Entry.{lineAnswered, Replied, FlightLeft};
 use columns::field::write_numbers;
+use columns::line::put_numbers;
 use falcon_core::calls::Answer;
 use falcon_core::calls::Answered;
 use falcon_core::calls::Output;
@@ -23,6 +24,8 @@ use falcon_core::calls::refused;
 use falcon_core::calls::totals_beside;
 use falcon_core::supervisor::Supervisor;
 use falcon_failsafe::flight::FlightSupervisor;
+use falcon_record::RECORD_FIELDS;
+use falcon_record::record_columns;
 use falcon_guidance::legs::legs;
 use falcon_guidance::state::Legs;
 use falcon_guidance::state::Point;
@@ -98,18 +101,6 @@ fn zones_step(s: Supervisor, numbers: &[u32]) -> Answered
     s.set_keepout_zones(&floats[..lent])
 }
 
-// Puts these numbers into the array, from `at` on.
-fn put_numbers(numbers: &mut [u32], at: usize, part: &[u32])
-    requires { ⌜ at + length (now part) ≤ length (now numbers) ⌝ }
-    ensures { λ _. ⌜ now (numbers .exit) ≡ put (now (numbers .entry)) at (now (part .entry)) ⌝ }
-{
-    let mut i = 0;
-    while i < part.len() {
-        numbers[at + i] = part[i];
-        i += 1;
-    }
-}
-
 // The answer's numbers, at the front of the array.
 fn put_answer(numbers: &mut [u32], a: Answer)
     requires { ⌜ answerFields ≤ length (now numbers) ⌝ }
@@ -126,6 +117,24 @@ fn put_totals(numbers: &mut [u32], t: DayTotals)
 {
     let nine = t.numbers();
     put_numbers(numbers, Answer::FIELDS, &nine);
+}
+
+// The numbers behind the ten of an answer. Answers how many the answer has in all.
+fn put_extra(numbers: &mut [u32], s: Supervisor, output: Output) -> usize {
+    match output {
+        Output::Nothing => Answer::FIELDS,
+        Output::Ticks(_) => Answer::FIELDS,
+        Output::Totals => {
+            let totals = s.totals;
+            put_totals(numbers, totals);
+            Answer::WITH_TOTALS
+        }
+        Output::Record => {
+            let columns = record_columns(s);
+            put_numbers(numbers, Answer::FIELDS, &columns);
+            Answer::FIELDS + RECORD_FIELDS
+        }
+    }
 }
 
 // A tick, a report or a command, from the flight and the waypoints of the active leg and of the next. The array takes the answer's numbers.
@@ -173,6 +182,7 @@ fn other_step(s: Supervisor, call: OtherCall, numbers: &[u32]) -> Answered
         OtherCall::Points => points_step(s, numbers),
         OtherCall::Zones => zones_step(s, numbers),
         OtherCall::Totals => s.totals(),
+        OtherCall::Saves => s.save(),
     }
 }
 
@@ -186,18 +196,8 @@ pub(crate) fn answer_other(s: Supervisor, call: OtherCall, numbers: &mut [u32]) 
     put_answer(numbers, a);
     let supervisor = answered.supervisor;
     let output = a.output;
-    let Output::Totals = output else {
-        return LineReplied {
-            supervisor,
-            count: Answer::FIELDS,
-        };
-    };
-    let totals = supervisor.totals;
-    put_totals(numbers, totals);
-    LineReplied {
-        supervisor,
-        count: Answer::WITH_TOTALS,
-    }
+    let count = put_extra(numbers, supervisor, output);
+    LineReplied { supervisor, count }
 }
 
 // A tick, a report or a command, from the whole state.

@@ -10,7 +10,7 @@ use Rattle.falcon_guidance.specs.declared.state.Point.{Point}
 use Rattle.falcon_flight.specs.declared.tick.TickAnswer.{TickAnswer}
 use Rattle.falcon_flight.specs.declared.tick.TickAnswer.the-variants.{MotorsOff, Setpoint}
 use Rattle.falcon_core.specs.declared.calls.Answer.{Answer}
-use Rattle.falcon_core.specs.declared.calls.Output.the-variants.{Nothing, Ticks, Totals}
+use Rattle.falcon_core.specs.declared.calls.Output.the-variants.{Nothing, Ticks, Totals, Record}
 use Rattle.falcon_core.specs.Calls.{flag, numbersOf}
 use borrow.Author.Needs.{needs}
 use Rattle.falcon_core.proofs.calls.Answer.numbers.Statement.{statement}
@@ -33,6 +33,9 @@ enum-told-2 c = search needs
 
 enum-told-3 : tie.Need-enum-told-3
 enum-told-3 c = search needs
+
+enum-told-4 : tie.Need-enum-told-4
+enum-told-4 c = search needs
 
 enum-known-answer : tie.Need-enum-known-answer
 enum-known-answer c = search needs
@@ -62,6 +65,10 @@ module _ (a : Answer) {m b : ℕ} (mode : m ≡ modeNumber (a .mode)) (verdict :
   unfolding numbersOf
   totals output = simp (output, mode, verdict)
 
+  record-told : a .output ≡ Record → (a .refusal ∷ m ∷ 0 ∷ 0 ∷ 0 ∷ 0 ∷ 0 ∷ 0 ∷ a .outstanding ∷ b ∷ []) ≡ numbersOf a
+  unfolding numbersOf
+  record-told output = simp (output, mode, verdict)
+
   motors-off :
       (t : TickAnswer) → a .output ≡ Ticks t → t ≡ MotorsOff → (a .refusal ∷ m ∷ 0 ∷ 1 ∷ 0 ∷ 0 ∷ 0 ∷ 0 ∷ a .outstanding ∷ b ∷ []) ≡ numbersOf a
   unfolding numbersOf
@@ -87,10 +94,13 @@ returns-2 : tie.Need-returns-2
 returns-2 c = totals (c .before .before .before .before .args .self) (c .before .before .before .number .ensures) (c .before .before .number2 .ensures) (c .enum-told2 .given .1)
 
 returns-3 : tie.Need-returns-3
-returns-3 c = motors-off (c .before .before .before .before .before .before .before .args .self) (c .before .before .before .before .before .before .number .ensures) (c .before .before .before .before .before .number2 .ensures) _ (c .before .before .before .output .given .1) (c .enum-told3 .given .1)
+returns-3 c = record-told (c .before .before .before .before .args .self) (c .before .before .before .number .ensures) (c .before .before .number2 .ensures) (c .enum-told3 .given .1)
 
 returns-4 : tie.Need-returns-4
-returns-4 c = setpoint (c .before .before .before .before .before .before .before .before .before .before .before .before .before .args .self) (c .before .before .before .before .before .before .before .before .before .before .before .before .number .ensures) (c .before .before .before .before .before .before .before .before .before .before .before .number2 .ensures) _ _ _ _ (c .before .before .before .before .before .before .before .before .before .output .given .1) (c .before .before .before .before .before .before .answer .given .1) (c .before .before .before .before .number3 .ensures) (c .before .before .before .number4 .ensures) (c .before .before .to-bits .ensures) (c .before .to-bits2 .ensures) (c .to-bits3 .ensures)
+returns-4 c = motors-off (c .before .before .before .before .before .before .before .args .self) (c .before .before .before .before .before .before .number .ensures) (c .before .before .before .before .before .number2 .ensures) _ (c .before .before .before .output .given .1) (c .enum-told4 .given .1)
+
+returns-5 : tie.Need-returns-5
+returns-5 c = setpoint (c .before .before .before .before .before .before .before .before .before .before .before .before .before .args .self) (c .before .before .before .before .before .before .before .before .before .before .before .before .number .ensures) (c .before .before .before .before .before .before .before .before .before .before .before .number2 .ensures) _ _ _ _ (c .before .before .before .before .before .before .before .before .before .output .given .1) (c .before .before .before .before .before .before .answer .given .1) (c .before .before .before .before .number3 .ensures) (c .before .before .before .number4 .ensures) (c .before .before .to-bits .ensures) (c .before .to-bits2 .ensures) (c .to-bits3 .ensures)
 
 pub numbers-spec : {M : Type 1} → statement M
 numbers-spec =
@@ -100,8 +110,9 @@ numbers-spec =
     number-requires-2
     enum-told
     enum-told-2
-    enum-known-output
     enum-told-3
+    enum-known-output
+    enum-told-4
     enum-known-answer
     number-requires-3
     number-requires-4
@@ -111,4 +122,5 @@ numbers-spec =
     returns
     returns-2
     returns-3
-    returns-4)
+    returns-4
+    returns-5)

@@ -1,23 +1,14 @@
-use mathlib.Core.Path.{sym, _∙_}
-use Rattle.falcon_core.proofs.Answers.{totals-unsequenced, totals-accepted}
+use mathlib.Core.Path.{_∙_}
+use Rattle.falcon_core.proofs.Answers.{tells-totals, told-step}
 use borrow.Author.Needs.{needs}
 use Rattle.falcon_core.proofs.supervisor.Supervisor.totals.Statement.{statement}
 use Rattle.falcon_core.proofs.supervisor.Supervisor.totals.Tie as tie
 
-sequence-refusal-requires : tie.Need-sequence-refusal-requires
-sequence-refusal-requires c κs = search needs
-
-refused-requires : tie.Need-refused-requires
-refused-requires c κs = search needs
+told-requires : tie.Need-told-requires
+told-requires c κs = search needs
 
 returns : tie.Need-returns
-returns c = c .refused .ensures ∙ totals-unsequenced (c .before .before .before .args .self) _ (c .before .before .sequence-refusal .ensures) (c .before .if1 .taken)
-
-accepted-requires : tie.Need-accepted-requires
-accepted-requires c κs = search needs
-
-returns-2 : tie.Need-returns-2
-returns-2 c = c .accepted .ensures ∙ totals-accepted (c .before .before .before .args .self) (sym (c .before .before .sequence-refusal .ensures) ∙ c .before .if1 .left)
+returns c = c .told .ensures ∙ told-step (c .before .args .self) _ _ tells-totals
 
 pub totals-spec : {M : Type 1} → statement M
-totals-spec = tie.close (tie.spec sequence-refusal-requires refused-requires returns accepted-requires returns-2)
+totals-spec = tie.close (tie.spec told-requires returns)

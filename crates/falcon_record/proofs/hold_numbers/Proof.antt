@@ -1,0 +1,39 @@
+use Rattle.falcon_record.specs.Columns.{holdColumns}
+use borrow.Author.Tests.{lt-ltb, le-ltb, le-leb, lt-leb, eq-eqb, ne-eqb}
+use borrow.Author.Needs.{needs}
+use Rattle.falcon_record.proofs.hold_numbers.Statement.{statement}
+use Rattle.falcon_record.proofs.hold_numbers.Tie as tie
+
+to-bits-requires : tie.Need-to-bits-requires
+to-bits-requires c κs = search needs
+
+to-bits-requires-2 : tie.Need-to-bits-requires-2
+to-bits-requires-2 c κs = search needs
+
+number-requires : tie.Need-number-requires
+number-requires c κs = search needs
+
+number-requires-2 : tie.Need-number-requires-2
+number-requires-2 c κs = search needs
+
+to-bits-requires-3 : tie.Need-to-bits-requires-3
+to-bits-requires-3 c κs = search needs
+
+to-bits-requires-4 : tie.Need-to-bits-requires-4
+to-bits-requires-4 c κs = search needs
+
+returns : tie.Need-returns
+unfolding holdColumns
+returns c = simp (c .to-bits4 .ensures, c .before .to-bits3 .ensures, c .before .before .number2 .ensures, c .before .before .before .number .ensures, c .before .before .before .before .to-bits2 .ensures, c .before .before .before .before .before .to-bits .ensures)
+
+pub hold-numbers-spec : {M : Type 1} → statement M
+hold-numbers-spec =
+    tie.close
+    (tie.spec
+    to-bits-requires
+    to-bits-requires-2
+    number-requires
+    number-requires-2
+    to-bits-requires-3
+    to-bits-requires-4
+    returns)
