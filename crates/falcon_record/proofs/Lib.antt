@@ -1,2 +1,3 @@
 pub mod Stretch
 pub mod Lengths
+pub mod Back
