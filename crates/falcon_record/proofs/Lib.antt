@@ -1,3 +1,4 @@
 pub mod Stretch
 pub mod Lengths
 pub mod Back
+pub mod Range
