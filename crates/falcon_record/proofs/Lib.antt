@@ -2,3 +2,4 @@ pub mod Stretch
 pub mod Lengths
 pub mod Back
 pub mod Range
+pub mod Forms
