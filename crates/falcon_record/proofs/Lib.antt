@@ -3,3 +3,4 @@ pub mod Lengths
 pub mod Back
 pub mod Range
 pub mod Forms
+pub mod Reached
