@@ -36,7 +36,7 @@ use Rattle.falcon_core.proofs.Places.{filled-holds, replicate-holds, st
 zero-fits : Fit zerof
 zero-fits = ofBits-fits binary32 0
 
-origin-fits : FitPoint origin
+pub origin-fits : FitPoint origin
 origin-fits = record { x = zero-fits; y = zero-fits; z = zero-fits }
 
 nowhere-fits : FitPoint nowhere
@@ -95,7 +95,7 @@ point-fits l h i = record { x = h (3 * i); y = h (3 * i + 1); z = h (3 * i + 2) 
 no-place-fits : FitZone noPlace
 no-place-fits = record { center = nowhere-fits; radius = nan-fits binary32 }
 
-no-zone-fits : FitZone noZone
+pub no-zone-fits : FitZone noZone
 no-zone-fits = record { center = origin-fits; radius = zero-fits }
 
 zone-fits : (l : List Float) → ((i : ℕ) → Fit (getD l i nan)) → (i : ℕ) → FitZone (zoneAtOf l i)

@@ -1,0 +1,6 @@
+pub mod Stretch
+pub mod Lengths
+pub mod Back
+pub mod Range
+pub mod Forms
+pub mod Reached

@@ -1,5 +1,5 @@
 -- What the columns rest on beside themselves: true of every state that a list of calls leads to, where every lent float is an f32 value.
-use Prim.Native.Nat.{ℕ, _≤_, _<_, _^_}
+use Prim.Native.Nat.{_≤_, _<_, _^_}
 use mathlib.Core.Path.{_≡_}
 use mathlib.Core.Bool.{true, false}
 use Rattle.columns.specs.Line.{InRange}
