@@ -6,10 +6,10 @@ use native.Mathlib.Omega.{arith}
 use native.Mathlib.Decide.{decLt}
 use mathlib.Core.Path.{_≡_, refl, sym, ap, subst, _∙_}
 use mathlib.Core.List.{List, [], _∷_, _++_, append-nil, append-assoc}
-use lib.ListN.{length, getD, set, take, drop, length-append, length-drop, length-replicate, replicate-append-replicate, take-append-drop}
+use lib.ListN.{length, getD, set, take, drop, length-append, length-drop, length-replicate, replicate-append-replicate, take-append-drop, drop-of-length-le}
 use lib.Seq.{length-take-le, drop-cons, set-at, take-at, drop-at, take-suc, take-length, drop-append-add, drop-drop}
 use Rattle.columns.specs.Field.{fieldWidth, pad, columns, fieldOf, spaces, put}
-use Rattle.columns.specs.Line.{lineOf, writtenOver, putOver}
+use Rattle.columns.specs.Line.{lineOf, writtenOver, over, putOver}
 use borrow.Author.Tests.{lt-ltb, le-ltb}
 use Rattle.columns.proofs.FieldAgain.{spaces-one, columns-none, columns-more, length-columns, length-field}
 
@@ -267,6 +267,42 @@ put-seam p d at f e =
     ap (λ (l : List ℕ). l ++ (f ++ drop (at + length f) (p ++ drop at d))) (take-at p (drop at d) at e)
     ∙ ap (λ (l : List ℕ). p ++ (f ++ l)) back
     ∙ sym (append-assoc p f (drop (at + length f) d))
+
+-- numbers put behind those at an array's start
+pub put-behind : (p q d n m : List ℕ) (at : ℕ) → length p ≡ at → at + length q ≤ length d → n ≡ over p d → m ≡ putOver at q n → m ≡ over (p ++ q) d
+put-behind p q d n m at e h is put-is =
+    let long : length n ≡ length d = ap length is ∙ length-append p (drop (length p) d) ∙ omega (arith, length-drop (length p) d) in
+    let size : at + length q ≡ length (p ++ q) = omega (arith, length-append p q) in
+    put-is
+    ∙ sym (put-room q n at (omega (arith, long)))
+    ∙ ap (λ (l : List ℕ). put l at q) (is ∙ ap (λ (k : ℕ). p ++ drop k d) e)
+    ∙ put-seam p d at q e
+    ∙ ap (λ (k : ℕ). (p ++ q) ++ drop k d) size
+
+-- numbers that take the whole array
+pub over-all : (p d : List ℕ) → length p ≡ length d → over p d ≡ p
+over-all p d e = ap (λ (l : List ℕ). p ++ l) (drop-of-length-le d {i = length p} (omega arith)) ∙ append-nil p
+
+-- three parts, one behind the other, that take the whole array
+pub put-three :
+    (x y z a b c d n m o : List ℕ) (j k : ℕ) →
+    a ≡ x →
+    b ≡ y →
+    c ≡ z →
+    length x ≡ j →
+    j + length y ≡ k →
+    k + length z ≡ length d →
+    n ≡ putOver 0 a d →
+    m ≡ putOver j b n →
+    o ≡ putOver k c m →
+    o ≡ x ++ (y ++ z)
+put-three x y z a b c d n m o j k ea eb ec jx ky kz p q r =
+    let two : length (x ++ y) ≡ k = length-append x y ∙ omega arith in
+    let all : length ((x ++ y) ++ z) ≡ length d = length-append (x ++ y) z ∙ omega arith in
+    let first : n ≡ over x d = put-behind [] x d d n 0 refl (omega arith) refl (p ∙ ap (λ (l : List ℕ). putOver 0 l d) ea) in
+    let second : m ≡ over (x ++ y) d = put-behind x y d n m j jx (omega arith) first (q ∙ ap (λ (l : List ℕ). putOver j l n) eb) in
+    put-behind (x ++ y) z d m o k two (omega arith) second (r ∙ ap (λ (l : List ℕ). putOver k l m) ec) ∙ over-all ((x ++ y) ++ z) d all ∙ append-assoc x y z
+
 
 one-more : (ns : List ℕ) (k : ℕ) → k < length ns → lineOf (take k ns) ++ fieldOf (getD ns k 0) ≡ lineOf (take (k + 1) ns)
 unfolding lineOf

@@ -23,6 +23,10 @@ pub length-point : (p : Point) → length (pointColumns p) ≡ pointNumbers
 unfolding pointColumns
 length-point p = refl
 
+pub length-plain : (z : Zone) → length (zoneColumns false 0 z) ≡ zoneNumbers
+unfolding zoneColumns
+length-plain z = refl
+
 zone-by : (tops : Bool) (top : ℕ) (z : Zone) → length (zoneColumns tops top z) ≡ cond tops (zoneNumbers + 1) zoneNumbers
 unfolding zoneColumns
 zone-by true top z = refl

@@ -4,3 +4,4 @@ pub mod Back
 pub mod Range
 pub mod Forms
 pub mod Reached
+pub mod Saving

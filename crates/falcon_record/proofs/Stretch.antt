@@ -4,12 +4,14 @@ use native.Mathlib.Nat.{not-suc-le-zero, mul-zero, mul-suc, mul-le-mul-left}
 use native.Mathlib.Decide.{decLt}
 use native.Mathlib.Omega.{arith}
 use mathlib.Core.Bool.{Bool, true, false}
-use mathlib.Core.Path.{_≡_, sym, ap, _∙_}
+use mathlib.Core.Path.{_≡_, refl, sym, ap, _∙_}
 use mathlib.Core.List.{List, _++_}
 use borrow.Author.Tests.{lt-ltb, le-ltb}
 use lib.Dec.{ltb}
-use lib.ListN.{length, getD, replicate, length-append, length-replicate, getD-replicate, List·getD-append}
+use lib.ListN.{length, getD, drop, replicate, length-append, length-drop, length-replicate, getD-replicate, List·getD-append}
 use lib.Seq.{getD-append-add, ext-getD}
+use Rattle.columns.specs.Line.{over, putOver}
+use Rattle.columns.proofs.Writing.{put-behind, over-all}
 use Rattle.falcon_core.specs.SoundState.{filledOf, Tidy}
 use Rattle.falcon_core.proofs.Places.{length-filled, filled-at, filled-beyond}
 use Rattle.falcon_record.specs.Columns.{placed, placeIn}
@@ -77,3 +79,34 @@ refilled Held d z size l count f k h =
       | yes b ↦ filled-at f d count zs i (omega (arith, k .few)) b ∙ h i b
       | no b ↦ filled-beyond f d count zs i (omega arith) ∙ getD-replicate size i z d q ∙ sym (k .beyond i (omega arith) q)
     ])
+
+-- an array of so many stretches, with the first i of them at its start
+pub record Stretched (f : ℕ → List ℕ) (w size : ℕ) (d n : List ℕ) (i : ℕ) : Type 0 where
+  pub most : i ≤ size
+  pub is : n ≡ over (placed f i) d
+  pub long : length n ≡ w * size
+
+module _ (f : ℕ → List ℕ) (w : ℕ) (h : (i : ℕ) → length (f i) ≡ w) (size : ℕ) (d : List ℕ) (e : length d ≡ w * size) where
+  pub stretch-first : Stretched f w size d d 0
+  unfolding placed
+  stretch-first = record { most = omega arith; is = refl; long = e }
+
+  -- one more put
+  pub stretch-next : (n m p : List ℕ) (i : ℕ) → Stretched f w size d n i → i < size → p ≡ f i → m ≡ putOver (w * i) p n → Stretched f w size d m (suc i)
+  unfolding placed
+  stretch-next n m p i k less q put-is =
+      let room : w * i + w ≤ w * size = omega (arith, mul-le-mul-left w less, mul-suc w i) in
+      let is : m ≡ over (placed f i ++ f i) d =
+          put-behind (placed f i) (f i) d n m (w * i) (length-placed f w h i) (omega (arith, h i)) (k .is) (put-is ∙ ap (λ (x : List ℕ). putOver (w * i) x n) q) in
+      let some : length (placed f i ++ f i) ≤ w * size = omega (arith, length-placed f w h (suc i), mul-suc w i) in
+      record {
+        most = less;
+        is = is;
+        long = ap length is ∙ length-append (placed f i ++ f i) (drop (length (placed f i ++ f i)) d) ∙ omega (arith, length-drop (length (placed f i ++ f i)) d);
+      }
+
+  -- and all of them
+  pub stretches-all : (n : List ℕ) (i : ℕ) → Stretched f w size d n i → size ≤ i → n ≡ placed f size
+  stretches-all n i k last =
+      let all : i ≡ size = omega (arith, k .most) in
+      k .is ∙ ap (λ (j : ℕ). over (placed f j) d) all ∙ over-all (placed f size) d (length-placed f w h size ∙ sym e)

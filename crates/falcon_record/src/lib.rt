@@ -1,10 +1,12 @@
 // The record: the state of a supervisor as the columns of a line of kind 9, which docs/RECORD.md lists.
 ghost use mathlib.Core.Path.{_≡_};
 ghost use mathlib.Core.Bool.{false};
+ghost use mathlib.Core.List.{[], _∷_, _++_};
 ghost use Prim.Native.Nat.{_<_};
 ghost use Rattle.falcon_guidance.specs.State.{origin, noZone, nowhere, maxWaypoints, maxKeepoutZones};
 ghost use Rattle.falcon_guidance.specs.Zones.{noPlace};
-ghost use Rattle.falcon_record.specs.Columns.{configColumns, checkColumns, estimatorColumns, shownColumns, silenceColumns, holdColumns, countColumns, useColumns};
+ghost use Rattle.falcon_totals.specs.Totals.{totalsNumbers};
+ghost use Rattle.falcon_record.specs.Columns.{recordKind, configColumns, checkColumns, estimatorColumns, shownColumns, silenceColumns, holdColumns, countColumns, useColumns};
 ghost use Rattle.falcon_record.specs.Columns.{scalarColumns, placeIn, pointColumns, zoneColumns, pointsColumns, zonesColumns};
 ghost use Rattle.falcon_record.specs.Saved.{writtenForm, columnsOf, saveStep, savedOver};
 use columns::line::put_numbers;
@@ -15,10 +17,10 @@ use falcon_core::calls::refused;
 use falcon_core::supervisor::Supervisor;
 use falcon_failsafe::flight::FlightSupervisor;
 use falcon_guidance::state::Config;
-use falcon_guidance::state::Hold;
 use falcon_guidance::state::Point;
 use falcon_guidance::state::Zone;
 use falcon_guidance::state::Zones;
+use falcon_totals::DayTotals;
 use relay_batt::BattState;
 use relay_batt::Battery;
 use relay_batt::BatteryEstimator;
@@ -27,9 +29,16 @@ use relay_math::to_bits;
 // The kind of the line whose columns these are.
 const RECORD_KIND: u32 = 9;
 
-// The columns before the first point, those of the points and those of the zones.
-const SCALARS: usize = 55;
+// The columns of what an opening sets and of the mode, those of the battery, and those of what is counted and in use: all before the first point.
+const OPENING: usize = 12;
 
+const BATTERY: usize = 21;
+
+const FLOWN: usize = 22;
+
+const SCALARS: usize = OPENING + BATTERY + FLOWN;
+
+// Those of the points and those of the zones.
 const POINTS: usize = Point::NUMBERS * Point::MAX_WAYPOINTS;
 
 const ZONES: usize = Zone::NUMBERS * Zone::MAX_KEEPOUT_ZONES;
@@ -107,25 +116,17 @@ fn silence_numbers(b: Battery) -> [u32; 3]
     [to_bits(b.missing_s), number(b.present), number(b.seen)]
 }
 
-// The hold point, the regime, braking and its two times.
-fn hold_numbers(h: Hold) -> [u32; 6]
-    ensures { λ r. ⌜ r ≡ holdColumns h ⌝ }
+// The hold point, the regime, braking and its two times; the tilt and wind counts, the failsafe latch, the motors.
+fn hold_numbers(f: FlightSupervisor) -> [u32; 10]
+    ensures { λ r. ⌜ r ≡ holdColumns (f .hold) ++ countColumns f ⌝ }
 {
     [
-        to_bits(h.hold_xy.x),
-        to_bits(h.hold_xy.y),
-        number(h.hold_regime),
-        number(h.hold_braking),
-        to_bits(h.brake_s),
-        to_bits(h.brake_rest_s),
-    ]
-}
-
-// The tilt and wind counts, the failsafe latch, the motors.
-fn count_numbers(f: FlightSupervisor) -> [u32; 4]
-    ensures { λ r. ⌜ r ≡ countColumns f ⌝ }
-{
-    [
+        to_bits(f.hold.hold_xy.x),
+        to_bits(f.hold.hold_xy.y),
+        number(f.hold.hold_regime),
+        number(f.hold.hold_braking),
+        to_bits(f.hold.brake_s),
+        to_bits(f.hold.brake_rest_s),
         f.counts.runaway_count,
         f.counts.wind_count,
         number(f.rtl_latched),
@@ -144,28 +145,54 @@ fn use_numbers(f: FlightSupervisor) -> [u32; 3]
     ]
 }
 
+// The kind, the configuration, the masks and the mode.
+fn opening_numbers(f: FlightSupervisor) -> [u32; OPENING]
+    ensures { λ r. ⌜ r ≡ (recordKind ∷ []) ++ (configColumns (f .config) (f .battery .est .cfg .cells) ++ checkColumns f) ⌝ }
+{
+    let config = f.config;
+    let cells = f.battery.est.cfg.cells;
+    let mut numbers = [0u32; OPENING];
+    put_numbers(&mut numbers, 0, &[RECORD_KIND]);
+    put_numbers(&mut numbers, 1, &config_numbers(config, cells));
+    put_numbers(&mut numbers, 9, &check_numbers(f));
+    numbers
+}
+
+// The battery.
+fn battery_numbers(b: Battery) -> [u32; BATTERY]
+    ensures { λ r. ⌜ r ≡ estimatorColumns (b .est) ++ (shownColumns (b .state) ++ silenceColumns b) ⌝ }
+{
+    let est = b.est;
+    let state = b.state;
+    let mut numbers = [0u32; BATTERY];
+    put_numbers(&mut numbers, 0, &estimator_numbers(est));
+    put_numbers(&mut numbers, 9, &shown_numbers(state));
+    put_numbers(&mut numbers, 18, &silence_numbers(b));
+    numbers
+}
+
+// The hold, the counts, the totals and what is in use.
+fn flown_numbers(f: FlightSupervisor, totals: DayTotals) -> [u32; FLOWN]
+    ensures { λ r. ⌜ r ≡ (holdColumns (f .hold) ++ countColumns f) ++ (totalsNumbers totals ++ useColumns f) ⌝ }
+{
+    let mut numbers = [0u32; FLOWN];
+    put_numbers(&mut numbers, 0, &hold_numbers(f));
+    put_numbers(&mut numbers, 10, &totals.numbers());
+    put_numbers(&mut numbers, 19, &use_numbers(f));
+    numbers
+}
+
 // The columns before the first point.
 fn scalar_numbers(s: Supervisor) -> [u32; SCALARS]
     ensures { λ r. ⌜ r ≡ scalarColumns s ⌝ }
 {
     let f = s.flight;
-    let config = f.config;
     let battery = f.battery;
-    let est = battery.est;
-    let state = battery.state;
-    let hold = f.hold;
     let totals = s.totals;
     let mut numbers = [0u32; SCALARS];
-    numbers[0] = RECORD_KIND;
-    put_numbers(&mut numbers, 1, &config_numbers(config, est.cfg.cells));
-    put_numbers(&mut numbers, 9, &check_numbers(f));
-    put_numbers(&mut numbers, 12, &estimator_numbers(est));
-    put_numbers(&mut numbers, 21, &shown_numbers(state));
-    put_numbers(&mut numbers, 30, &silence_numbers(battery));
-    put_numbers(&mut numbers, 33, &hold_numbers(hold));
-    put_numbers(&mut numbers, 39, &count_numbers(f));
-    put_numbers(&mut numbers, 43, &totals.numbers());
-    put_numbers(&mut numbers, 52, &use_numbers(f));
+    put_numbers(&mut numbers, 0, &opening_numbers(f));
+    put_numbers(&mut numbers, OPENING, &battery_numbers(battery));
+    put_numbers(&mut numbers, OPENING + BATTERY, &flown_numbers(f, totals));
     numbers
 }
 

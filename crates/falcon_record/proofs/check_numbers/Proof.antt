@@ -1,5 +1,4 @@
 use Rattle.falcon_record.specs.Columns.{checkColumns}
-use borrow.Author.Tests.{lt-ltb, le-ltb, le-leb, lt-leb, eq-eqb, ne-eqb}
 use borrow.Author.Needs.{needs}
 use Rattle.falcon_record.proofs.check_numbers.Statement.{statement}
 use Rattle.falcon_record.proofs.check_numbers.Tie as tie
@@ -7,8 +6,6 @@ use Rattle.falcon_record.proofs.check_numbers.Tie as tie
 number-requires : tie.Need-number-requires
 number-requires c κs = search needs
 
--- a variant with fields: add `c .before .fsm .given .1`?
--- a variant with fields: add `c .before .before .table .given .1`?
 returns : tie.Need-returns
 unfolding checkColumns
 returns c = simp (c .number .ensures)

@@ -1,5 +1,4 @@
-use Rattle.falcon_record.specs.Columns.{holdColumns}
-use borrow.Author.Tests.{lt-ltb, le-ltb, le-leb, lt-leb, eq-eqb, ne-eqb}
+use Rattle.falcon_record.specs.Columns.{holdColumns, countColumns}
 use borrow.Author.Needs.{needs}
 use Rattle.falcon_record.proofs.hold_numbers.Statement.{statement}
 use Rattle.falcon_record.proofs.hold_numbers.Tie as tie
@@ -22,9 +21,15 @@ to-bits-requires-3 c κs = search needs
 to-bits-requires-4 : tie.Need-to-bits-requires-4
 to-bits-requires-4 c κs = search needs
 
+number-requires-3 : tie.Need-number-requires-3
+number-requires-3 c κs = search needs
+
+number-requires-4 : tie.Need-number-requires-4
+number-requires-4 c κs = search needs
+
 returns : tie.Need-returns
-unfolding holdColumns
-returns c = simp (c .to-bits4 .ensures, c .before .to-bits3 .ensures, c .before .before .number2 .ensures, c .before .before .before .number .ensures, c .before .before .before .before .to-bits2 .ensures, c .before .before .before .before .before .to-bits .ensures)
+unfolding holdColumns countColumns
+returns c = simp (c .number4 .ensures, c .before .number3 .ensures, c .before .before .to-bits4 .ensures, c .before .before .before .to-bits3 .ensures, c .before .before .before .before .number2 .ensures, c .before .before .before .before .before .number .ensures, c .before .before .before .before .before .before .to-bits2 .ensures, c .before .before .before .before .before .before .before .to-bits .ensures)
 
 pub hold-numbers-spec : {M : Type 1} → statement M
 hold-numbers-spec =
@@ -36,4 +41,6 @@ hold-numbers-spec =
     number-requires-2
     to-bits-requires-3
     to-bits-requires-4
+    number-requires-3
+    number-requires-4
     returns)

@@ -1,61 +1,58 @@
+-- After i turns the first i places are there.
+use Prim.Native.Nat.{_-_}
+use native.Mathlib.Numerals.{add-one}
+use mathlib.Core.Path.{refl, ap, _∙_}
+use Rattle.falcon_guidance.specs.State.{origin, nowhere, pointNumbers, maxWaypoints}
+use Rattle.falcon_record.specs.Columns.{placeIn, pointColumns, pointsColumns}
+use Rattle.falcon_record.proofs.Stretch.{Stretched, stretch-first, stretch-next, stretches-all}
+use Rattle.falcon_record.proofs.Lengths.{length-point}
 use borrow.Author.Needs.{needs}
 use Rattle.falcon_record.proofs.points_numbers.Statement.{statement}
 use Rattle.falcon_record.proofs.points_numbers.Tie as tie
-use Rattle.falcon_record.proofs.points_numbers.Reads as reads
-use Rattle.falcon_record.proofs.points_numbers.Lts as lts
-use Rattle.columns.proofs.line.put_numbers.Reads as put-numbers-reads
-use Rattle.falcon_record.proofs.point_in.Reads as point-in-reads
-use Rattle.falcon_record.proofs.point_numbers.Reads as point-numbers-reads
 
 abbrev Inv-loop : tie.InvT-loop
-Inv-loop mission waypoints numbers₀ i₀ numbers i = ?
+Inv-loop mission waypoints numbers₀ i₀ numbers i = Stretched (λ j. pointColumns (placeIn nowhere origin waypoints (mission .«wp_count») j)) pointNumbers maxWaypoints numbers₀ numbers i
 
 abbrev μ-loop : tie.MeasureT-loop
-μ-loop mission waypoints numbers₀ i₀ numbers i = ?
+μ-loop mission waypoints numbers₀ i₀ numbers i = maxWaypoints - i
 
--- src/lib.rt:198:5
 loop-holds : tie.Need-loop-holds Inv-loop μ-loop
-loop-holds c = ?
+loop-holds c = stretch-first _ pointNumbers (λ j. length-point _) maxWaypoints _ refl
 
--- src/lib.rt:199:13
 point-in-requires : tie.Need-point-in-requires Inv-loop μ-loop
-point-in-requires c κs = ?
+point-in-requires c κs = search needs
 
--- src/lib.rt:200:21
 slice-aggregate-put-numbers : tie.Need-slice-aggregate-put-numbers Inv-loop μ-loop
-slice-aggregate-put-numbers c = ?
+slice-aggregate-put-numbers c = search needs
 
--- src/lib.rt:200:35
 mul-put-numbers : tie.Need-mul-put-numbers Inv-loop μ-loop
-mul-put-numbers c = ?
+mul-put-numbers c = search needs
 
--- src/lib.rt:200:56
 point-numbers-requires : tie.Need-point-numbers-requires Inv-loop μ-loop
-point-numbers-requires c κs = ?
+point-numbers-requires c κs = search needs
 
--- src/lib.rt:200:55
 slice-aggregate-put-numbers-2 : tie.Need-slice-aggregate-put-numbers-2 Inv-loop μ-loop
-slice-aggregate-put-numbers-2 c = ?
+slice-aggregate-put-numbers-2 c = search needs
 
--- src/lib.rt:200:9
 put-numbers-requires : tie.Need-put-numbers-requires Inv-loop μ-loop
-put-numbers-requires c κs = ?
+put-numbers-requires c κs = search needs
 
--- src/lib.rt:201:9
 add-i : tie.Need-add-i Inv-loop μ-loop
-add-i c = ?
+add-i c = search needs
 
--- src/lib.rt:198:5
 loop-less : tie.Need-loop-less Inv-loop μ-loop
-loop-less c = ?
+loop-less c = search needs
 
--- src/lib.rt:198:5
 loop-again : tie.Need-loop-again Inv-loop μ-loop
-loop-again c = ?
+loop-again c =
+    let l = c .before .before .before .before .before .before .before .loop in
+    rw (add-one (l .i)) (stretch-next _ pointNumbers (λ j. length-point _) maxWaypoints _ refl _ _ _ (l .i) (l .inv) (c .before .before .before .before .before .before .loop-test .taken)
+    (c .before .before .before .point-numbers .ensures ∙ ap pointColumns (c .before .before .before .before .before .point-in .ensures))
+    (c .before .put-numbers .ensures))
 
--- src/lib.rt:191:1
 returns : tie.Need-returns Inv-loop μ-loop
-returns c = ?
+unfolding pointsColumns
+returns c = let l = c .before .loop in stretches-all _ pointNumbers (λ j. length-point _) maxWaypoints _ refl _ (l .i) (l .inv) (c .loop-test .left)
 
 pub points-numbers-spec : {M : Type 1} → statement M
 points-numbers-spec =

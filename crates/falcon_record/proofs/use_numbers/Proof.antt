@@ -1,7 +1,5 @@
 use mathlib.Core.Path.{refl}
 use Rattle.falcon_record.specs.Columns.{useColumns}
-use borrow.Author.Tests.{lt-ltb, le-ltb, le-leb, lt-leb, eq-eqb, ne-eqb}
-use borrow.Author.Needs.{needs}
 use Rattle.falcon_record.proofs.use_numbers.Statement.{statement}
 use Rattle.falcon_record.proofs.use_numbers.Tie as tie
 
