@@ -90,14 +90,15 @@ pub enum Call<'a> {
     Record,
 }
 
-/// An answer's numbers.
-#[derive(Clone, Debug)]
+/// An answer's numbers. The record's are not in a box: `timed` allocates for no line.
+#[derive(Clone, Copy, Debug)]
+#[allow(clippy::large_enum_variant)]
 pub enum Answer {
     Ordinary([u32; ANSWER_FIELDS]),
     /// With the day totals.
     Totals([u32; TOTALS_ANSWER]),
-    /// With the record. In a box, so that the other answers, nearly all, stay small to hand over.
-    Record(Box<[u32; WIDEST_ANSWER]>),
+    /// With the record.
+    Record([u32; WIDEST_ANSWER]),
 }
 
 impl Deref for Answer {
@@ -107,7 +108,7 @@ impl Deref for Answer {
         match self {
             Answer::Ordinary(numbers) => numbers,
             Answer::Totals(numbers) => numbers,
-            Answer::Record(numbers) => numbers.as_slice(),
+            Answer::Record(numbers) => numbers,
         }
     }
 }
@@ -318,10 +319,9 @@ impl Shuttle {
     pub fn answer_numbers(&mut self, numbers: Option<&[u32]>) -> Answer {
         let call = numbers.ok_or(2).and_then(call_of);
         let asks_totals = matches!(call, Ok(Call::Totals));
-        let asks_record = matches!(call, Ok(Call::Record));
+        let asks_more = matches!(call, Ok(Call::Totals | Call::Record));
         match call.and_then(|call| self.accept(call)) {
-            Ok(outputs) if asks_totals => Answer::Totals(self.with_totals(self.columns(0, outputs))),
-            Ok(outputs) if asks_record => Answer::Record(self.with_record(self.columns(0, outputs))),
+            Ok(outputs) if asks_more => self.with_more(asks_totals, outputs),
             Ok(outputs) => Answer::Ordinary(self.columns(0, outputs)),
             Err(refusal) => Answer::Ordinary(self.columns(refusal, CoreOutputs::default())),
         }
@@ -396,9 +396,21 @@ impl Shuttle {
         numbers
     }
 
+    /// The ten numbers with the totals or the record behind them. Apart, since nearly every answer has ten.
+    #[cold]
+    #[inline(never)]
+    fn with_more(&self, asks_totals: bool, outputs: CoreOutputs) -> Answer {
+        let columns = self.columns(0, outputs);
+        if asks_totals {
+            Answer::Totals(self.with_totals(columns))
+        } else {
+            Answer::Record(self.with_record(columns))
+        }
+    }
+
     /// The ten numbers with the record behind them.
-    fn with_record(&self, columns: [u32; ANSWER_FIELDS]) -> Box<[u32; WIDEST_ANSWER]> {
-        let mut numbers = Box::new([0; WIDEST_ANSWER]);
+    fn with_record(&self, columns: [u32; ANSWER_FIELDS]) -> [u32; WIDEST_ANSWER] {
+        let mut numbers = [0; WIDEST_ANSWER];
         let (ordinary, record) = numbers.split_at_mut(ANSWER_FIELDS);
         ordinary.copy_from_slice(&columns);
         let mut columns = Columns { places: record.iter_mut() };

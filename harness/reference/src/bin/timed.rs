@@ -1,5 +1,5 @@
 //! `timed < SHEET` answers a sheet as `reference` does, for timing: 64 KiB buffers, one pass over the bytes of a line, no allocation for a
-//! line but for an answer with a record, the report split off `step` (patches/timed) instead of a copy of the supervisor before every tick.
+//! line, the report split off `step` (patches/timed) instead of a copy of the supervisor before every tick.
 
 use reference::sheet::{write_fields, Shuttle, MAX_FIELDS, WIDEST_ANSWER, WIDTH};
 use std::io::{self, Read, Write};
