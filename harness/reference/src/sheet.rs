@@ -283,7 +283,7 @@ impl Totals {
 }
 
 /// One shuttle: its supervisor once opened, while a report is due what the report needs, the day totals, and the opening's low volts. The Rust
-/// keeps of those the two thresholds, each a quarter of them: for volts close to 0 the quarter is rounded, and many volts have the same.
+/// keeps of those their quarter, and that less 0.15: for volts close to 0 the quarter is rounded, and several volts have the same.
 #[derive(Default)]
 pub struct Shuttle {
     supervisor: Option<FlightSupervisor>,
