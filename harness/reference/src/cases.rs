@@ -1,6 +1,6 @@
 //! Document 01's worked example, and cases: readable calls with what is expected of each answer (harness/cases/cases.txt says how they are written).
 
-use crate::sheet::{answer_sheet, write_fields, Answer, Shuttle, ANSWER_FIELDS, TOTALS};
+use crate::sheet::{answer_sheet, write_fields, Answer, Shuttle, ANSWER_FIELDS, RECORD, TOTALS};
 
 const WORKED_INPUT: [&str; 4] =
     ["1 0 0 0 1120403456 1092616192 1096810496 0 0 0", "4 0 1 1", "4 1 1 1", "2 0 0 0 0 0 0 0 0 0 0 0 0 0 0 0 0 0"];
@@ -41,6 +41,7 @@ pub struct Case {
 pub fn cases_of(text: &str) -> Result<Vec<Case>, String> {
     let mut cases: Vec<Case> = Vec::new();
     let mut shuttle = Shuttle::new();
+    let mut before: Option<Answer> = None;
     for (at, line) in text.lines().enumerate() {
         let line = line.trim();
         if line.is_empty() || line.starts_with('#') {
@@ -49,6 +50,7 @@ pub fn cases_of(text: &str) -> Result<Vec<Case>, String> {
         let in_line = |e: String| format!("line {}: {e}", at + 1);
         if let Some(name) = line.strip_prefix("case ") {
             shuttle = Shuttle::new();
+            before = None;
             let (sheet, answers) = (Vec::new(), Vec::new());
             cases.push(Case { name: name.to_string(), sheet, answers });
             continue;
@@ -66,12 +68,14 @@ pub fn cases_of(text: &str) -> Result<Vec<Case>, String> {
         let (bytes, then_report) = line_of(call).map_err(in_line)?;
         for _ in 0..times {
             let answer = take(case, &mut shuttle, &bytes);
-            meets(&answer, expected).map_err(|e| in_line(format!("{e}; answered {:?}", &answer[..])))?;
+            meets(&answer, before.as_deref(), expected).map_err(|e| in_line(format!("{e}; answered {:?}", &answer[..])))?;
+            before = Some(answer);
             if then_report {
                 let mut report = Vec::new();
                 write_fields(&mut report, &[3, 0]);
                 let answer = take(case, &mut shuttle, &report);
-                meets(&answer, "").map_err(|e| in_line(format!("the report: {e}")))?;
+                meets(&answer, before.as_deref(), "").map_err(|e| in_line(format!("the report: {e}")))?;
+                before = Some(answer);
             }
         }
     }
@@ -161,6 +165,7 @@ fn line_of(call: &str) -> Result<(Vec<u8>, bool), String> {
             }
         }
         "totals" => numbers = vec![7],
+        "record" => numbers = vec![8],
         _ => return Err(format!("unknown call {call}")),
     }
     let mut bytes = Vec::new();
@@ -238,8 +243,19 @@ fn bytes_of(text: &str) -> Result<Vec<u8>, String> {
     Ok(out)
 }
 
+/// The pairs `COLUMN=VALUE` of a list, the columns being those of a record, counted from 1.
+fn columns_of(list: &str) -> Result<Vec<(usize, &str)>, String> {
+    list.split(',')
+        .map(|word| {
+            let (column, value) = word.split_once('=').ok_or_else(|| format!("no COLUMN=VALUE: {word}"))?;
+            let column = column.parse().ok().filter(|column| (1..=RECORD).contains(column));
+            Ok((column.ok_or_else(|| format!("no column of a record: {word}"))?, value))
+        })
+        .collect()
+}
+
 /// Does an answer meet what a case expects? Words not given are not looked at, but for the refusal, which is then 0.
-fn meets(answer: &[u32], expected: &str) -> Result<(), String> {
+fn meets(answer: &[u32], before: Option<&[u32]>, expected: &str) -> Result<(), String> {
     let words: Vec<&str> = expected.split_whitespace().collect();
     let mut refusal = 0;
     let mut k = 0;
@@ -278,6 +294,30 @@ fn meets(answer: &[u32], expected: &str) -> Result<(), String> {
                 for (i, word) in totals.iter().enumerate() {
                     check(ANSWER_FIELDS + i, word.parse().map_err(|_| format!("no number: {word}"))?)?;
                 }
+            }
+            "columns" => {
+                for (column, number) in columns_of(value)? {
+                    check(ANSWER_FIELDS + column - 1, number.parse().map_err(|_| format!("no number: {number}"))?)?;
+                }
+            }
+            "floats" => {
+                for (column, word) in columns_of(value)? {
+                    check(ANSWER_FIELDS + column - 1, bits(word)?)?;
+                }
+            }
+            "zeros" => {
+                let (first, last) = value.split_once("..").ok_or_else(|| format!("no FIRST..LAST: {value}"))?;
+                let ends = first.parse::<usize>().ok().zip(last.parse::<usize>().ok());
+                let (first, last) = ends.filter(|&(a, b)| 1 <= a && a <= b && b <= RECORD).ok_or_else(|| format!("no columns: {value}"))?;
+                for column in first..=last {
+                    check(ANSWER_FIELDS + column - 1, 0)?;
+                }
+            }
+            "again" => {
+                if before != Some(answer) {
+                    return Err("not the answer of the line before it".to_string());
+                }
+                used = 1;
             }
             first => {
                 refusal = first.parse().map_err(|_| format!("unknown word {first}"))?;

@@ -1,8 +1,9 @@
 //! Two programs on one sheet: their answers side by side, up to the first difference.
 
-use crate::generate::{generate, Profile};
+use crate::generate::{generate, Among, Profile};
 use crate::random::Random;
-use crate::sheet::{call_of, read_line, Call, MODES, WIDEST_ANSWER, WIDTH};
+use crate::records::RecordCounts;
+use crate::sheet::{call_of, read_field, read_line, Call, ANSWER_FIELDS, MODES, TOTALS_ANSWER, WIDEST_ANSWER, WIDTH};
 use std::fmt::{self, Display, Formatter};
 use std::io::{self, Read, Write};
 use std::path::Path;
@@ -19,6 +20,8 @@ pub struct Sheet {
     pub bytes: Vec<u8>,
     /// With a seed the first program gets it cut at random places.
     pub pieces: Option<u64>,
+    /// Its profile, where it is generated.
+    pub profile: Option<Profile>,
 }
 
 impl Sheet {
@@ -30,12 +33,12 @@ impl Sheet {
             }
         }
         let mut bytes = Vec::new();
-        generate(profile, seed, lines, long, &mut bytes)?;
-        Ok(Sheet { title, bytes, pieces: pieces.then_some(seed) })
+        generate(profile, seed, lines, Among { long, ..Among::USUAL }, &mut bytes)?;
+        Ok(Sheet { title, bytes, pieces: pieces.then_some(seed), profile: Some(profile) })
     }
 
     pub fn read(file: &str, pieces: bool) -> io::Result<Sheet> {
-        Ok(Sheet { title: file.to_string(), bytes: fs::read(file)?, pieces: pieces.then_some(0) })
+        Ok(Sheet { title: file.to_string(), bytes: fs::read(file)?, pieces: pieces.then_some(0), profile: None })
     }
 }
 
@@ -157,12 +160,14 @@ pub fn since_opening(sheet: &[u8], line: usize) -> (usize, Vec<&[u8]>) {
     (from, lines[from..].to_vec())
 }
 
-/// How often each refusal, each mode and the totals were answered, and each mode entered.
+/// How often each refusal, each mode, the totals and a record were answered, and each mode entered.
 #[derive(Clone, Default)]
 pub struct Counts {
     pub lines: u64,
-    /// Answers of the widest sort: accepted lines of kind 7.
+    /// Accepted lines of kind 7, by the answer's width.
     pub totals: u64,
+    /// Accepted lines of kind 8, by the answer's width.
+    pub records: RecordCounts,
     pub refusals: [u64; 10],
     pub modes: [u64; 8],
     /// Answers with this mode after one with another, or after none in the case of a mode other than 0.
@@ -175,7 +180,11 @@ impl Counts {
         let mut before = 0;
         for answer in answers.split_inclusive(|&b| b == b'\n').filter(|answer| answer.len() > 2 * WIDTH) {
             counts.lines += 1;
-            counts.totals += u64::from(answer.len() == WIDEST_ANSWER * WIDTH + 1);
+            counts.totals += u64::from(answer.len() == TOTALS_ANSWER * WIDTH + 1);
+            if answer.len() == WIDEST_ANSWER * WIDTH + 1 {
+                let columns: Option<Vec<u32>> = answer[ANSWER_FIELDS * WIDTH..].chunks_exact(WIDTH).map(read_field).collect();
+                counts.records.count(&columns.unwrap_or_default());
+            }
             if let Some(n) = counts.refusals.get_mut(usize::from(answer[WIDTH - 1] - b'0')) {
                 *n += 1;
             }
@@ -192,15 +201,16 @@ impl Counts {
     pub fn add(&mut self, other: &Counts) {
         self.lines += other.lines;
         self.totals += other.totals;
+        self.records.add(&other.records);
         let sums = self.refusals.iter_mut().chain(&mut self.modes).chain(&mut self.entered);
         for (sum, n) in sums.zip(other.refusals.iter().chain(&other.modes).chain(&other.entered)) {
             *sum += n;
         }
     }
 
-    /// Every refusal 1..8, every mode and the totals were answered.
-    pub fn has_all(&self) -> bool {
-        self.refusals[1..9].iter().chain(&self.modes).chain([&self.totals]).all(|&n| n > 0)
+    /// Every refusal 1..8, every mode, the totals and every sort of record that a profile has were answered.
+    pub fn has_all(&self, profile: Option<Profile>) -> bool {
+        self.refusals[1..9].iter().chain(&self.modes).chain([&self.totals]).all(|&n| n > 0) && self.records.has_all(profile)
     }
 }
 
@@ -210,6 +220,7 @@ impl Display for Counts {
         writeln!(f, "refusals answered, 0 (accepted) to 8: {:?}", &self.refusals[..9])?;
         writeln!(f, "modes answered: {}", named(&self.modes))?;
         writeln!(f, "modes entered: {}", named(&self.entered))?;
-        write!(f, "totals answered: {}", self.totals)
+        writeln!(f, "totals answered: {}", self.totals)?;
+        write!(f, "records answered: {}", self.records)
     }
 }

@@ -20,6 +20,8 @@ pub mod compare;
 pub mod generate;
 #[cfg(not(feature = "timed"))]
 pub mod random;
+#[cfg(not(feature = "timed"))]
+pub mod records;
 
 include!(concat!(env!("OUT_DIR"), "/mod_relay_fsm.rs"));
 include!(concat!(env!("OUT_DIR"), "/mod_relay_fsafe.rs"));

@@ -1,9 +1,10 @@
 //! Document 01's sheet over the Rust supervisor: lines to calls, calls to answers.
 
 use crate::due::{report, tick, Due};
-use crate::falcon_core::{CoreInputs, CoreOutputs, FlightBackend, FlightCore, FlightSupervisor, KeepoutZone, NavState};
+use crate::falcon_core::{CoreInputs, CoreOutputs, FlightBackend, FlightCore, FlightSupervisor, HoldRegime, KeepoutZone, NavState};
+use crate::falcon_core::{MAX_KEEPOUT_ZONES, MAX_WAYPOINTS};
 use crate::relay_fsm::{Event, Mode};
-use crate::relay_preflight::CheckTable;
+use crate::relay_preflight::{CheckId, CheckTable};
 use crate::stand_ins::relay_calib::CalParams;
 use std::io::{self, Read, Write};
 use std::ops::Deref;
@@ -16,8 +17,14 @@ pub const MAX_FIELDS: usize = 130;
 pub const ANSWER_FIELDS: usize = 10;
 /// Day totals: ticks by the mode they ended in, and changes of mode.
 pub const TOTALS: usize = 9;
-/// Fields of the widest answer: an accepted line of kind 7 has the totals behind the ordinary fields.
-pub const WIDEST_ANSWER: usize = ANSWER_FIELDS + TOTALS;
+/// Fields of the answer to an accepted line of kind 7: the totals stand behind the ordinary fields.
+pub const TOTALS_ANSWER: usize = ANSWER_FIELDS + TOTALS;
+/// Columns of a record, which are those of a line of kind 9 (docs/RECORD.md).
+pub const RECORD: usize = 135;
+/// Fields of the widest answer: an accepted line of kind 8 has the record behind the ordinary fields.
+pub const WIDEST_ANSWER: usize = ANSWER_FIELDS + RECORD;
+/// Every NaN of an answer.
+pub const NAN: u32 = 0x7FC0_0000;
 /// The first blocker where none is.
 pub const NO_BLOCKER: u32 = 21;
 
@@ -80,14 +87,18 @@ pub enum Call<'a> {
     /// Four numbers each.
     Zones(&'a [u32]),
     Totals,
+    Record,
 }
 
-/// An answer's numbers.
+/// An answer's numbers. The record's are not in a box: `timed` allocates for no line.
 #[derive(Clone, Copy, Debug)]
+#[allow(clippy::large_enum_variant)]
 pub enum Answer {
     Ordinary([u32; ANSWER_FIELDS]),
     /// With the day totals.
-    Totals([u32; WIDEST_ANSWER]),
+    Totals([u32; TOTALS_ANSWER]),
+    /// With the record.
+    Record([u32; WIDEST_ANSWER]),
 }
 
 impl Deref for Answer {
@@ -97,6 +108,7 @@ impl Deref for Answer {
         match self {
             Answer::Ordinary(numbers) => numbers,
             Answer::Totals(numbers) => numbers,
+            Answer::Record(numbers) => numbers,
         }
     }
 }
@@ -212,6 +224,10 @@ pub fn call_of(n: &[u32]) -> Result<Call<'_>, u32> {
             count(1)?;
             Ok(Call::Totals)
         }
+        8 => {
+            count(1)?;
+            Ok(Call::Record)
+        }
         _ => Err(3),
     }
 }
@@ -239,7 +255,7 @@ impl FlightBackend for Tick {
 pub fn answer_bits(x: f32) -> u32 {
     let bits = x.to_bits();
     if bits & 0x7FFF_FFFF > 0x7F80_0000 {
-        0x7FC0_0000
+        NAN
     } else {
         bits
     }
@@ -266,12 +282,14 @@ impl Totals {
     }
 }
 
-/// One shuttle: its supervisor once opened, while a report is due what the report needs, and the day totals.
+/// One shuttle: its supervisor once opened, while a report is due what the report needs, the day totals, and the opening's low volts. The Rust
+/// keeps of those their quarter, and that less 0.15: for volts close to 0 the quarter is rounded, and several volts have the same.
 #[derive(Default)]
 pub struct Shuttle {
     supervisor: Option<FlightSupervisor>,
     due: Option<Due>,
     totals: Totals,
+    low_volts: f32,
 }
 
 impl Shuttle {
@@ -301,8 +319,9 @@ impl Shuttle {
     pub fn answer_numbers(&mut self, numbers: Option<&[u32]>) -> Answer {
         let call = numbers.ok_or(2).and_then(call_of);
         let asks_totals = matches!(call, Ok(Call::Totals));
+        let asks_more = matches!(call, Ok(Call::Totals | Call::Record));
         match call.and_then(|call| self.accept(call)) {
-            Ok(outputs) if asks_totals => Answer::Totals(self.with_totals(self.columns(0, outputs))),
+            Ok(outputs) if asks_more => self.with_more(asks_totals, outputs),
             Ok(outputs) => Answer::Ordinary(self.columns(0, outputs)),
             Err(refusal) => Answer::Ordinary(self.columns(refusal, CoreOutputs::default())),
         }
@@ -315,6 +334,7 @@ impl Shuttle {
             self.supervisor = Some(open(opening));
             self.due = None;
             self.totals = Totals::default();
+            self.low_volts = opening.low_volts;
             return Ok(none);
         }
         let supervisor = self.supervisor.as_mut().ok_or(1u32)?;
@@ -352,7 +372,7 @@ impl Shuttle {
                 set_zones(supervisor, numbers);
                 Ok(none)
             }
-            Call::Totals => Ok(none),
+            Call::Totals | Call::Record => Ok(none),
         }
     }
 
@@ -367,14 +387,112 @@ impl Shuttle {
     }
 
     /// The ten numbers with the nine totals behind them.
-    fn with_totals(&self, columns: [u32; ANSWER_FIELDS]) -> [u32; WIDEST_ANSWER] {
-        let mut numbers = [0; WIDEST_ANSWER];
+    fn with_totals(&self, columns: [u32; ANSWER_FIELDS]) -> [u32; TOTALS_ANSWER] {
+        let mut numbers = [0; TOTALS_ANSWER];
         let (ordinary, totals) = numbers.split_at_mut(ANSWER_FIELDS);
         ordinary.copy_from_slice(&columns);
         totals[..8].copy_from_slice(&self.totals.ticks);
         totals[8] = self.totals.changes;
         numbers
     }
+
+    /// The ten numbers with the totals or the record behind them. Apart, since nearly every answer has ten.
+    #[cold]
+    #[inline(never)]
+    fn with_more(&self, asks_totals: bool, outputs: CoreOutputs) -> Answer {
+        let columns = self.columns(0, outputs);
+        if asks_totals {
+            Answer::Totals(self.with_totals(columns))
+        } else {
+            Answer::Record(self.with_record(columns))
+        }
+    }
+
+    /// The ten numbers with the record behind them.
+    fn with_record(&self, columns: [u32; ANSWER_FIELDS]) -> [u32; WIDEST_ANSWER] {
+        let mut numbers = [0; WIDEST_ANSWER];
+        let (ordinary, record) = numbers.split_at_mut(ANSWER_FIELDS);
+        ordinary.copy_from_slice(&columns);
+        let mut columns = Columns { places: record.iter_mut() };
+        write_record(&mut columns, self.supervisor.as_ref().expect("accepted behind an opening"), self.low_volts, &self.totals);
+        assert!(columns.places.next().is_none(), "a record has {RECORD} columns");
+        numbers
+    }
+}
+
+/// The columns of a record, written one after the other.
+struct Columns<'a> {
+    places: std::slice::IterMut<'a, u32>,
+}
+
+impl Columns<'_> {
+    fn number(&mut self, number: u32) {
+        *self.places.next().expect("a place for every column") = number;
+    }
+
+    fn flag(&mut self, flag: bool) {
+        self.number(u32::from(flag));
+    }
+
+    fn floats(&mut self, floats: &[f32]) {
+        floats.iter().for_each(|&x| self.number(answer_bits(x)));
+    }
+
+    /// Places that nothing is kept in.
+    fn unused(&mut self, columns: usize) {
+        (0..columns).for_each(|_| self.number(0));
+    }
+}
+
+/// The record: the supervisor's own fields and what the Rust does not keep, in the order of docs/RECORD.md. Each field holds what the Rattle state
+/// holds, with these to be said: the masks are those of the check table, row by row; the regime is 1 for `HoldRegime::Hold`; places beyond a
+/// count are 0 whatever the Rust's arrays have there (home, or points and zones of an earlier list). The clock, the mission's source and the
+/// receiver are left out with Follow, and of the core the next tick sets everything.
+fn write_record(c: &mut Columns, s: &FlightSupervisor, low_volts: f32, totals: &Totals) {
+    let (battery, shown) = (&s.batt_est, &s.batt_state);
+    let mask = |is_set: &dyn Fn(CheckId) -> bool| CheckId::ALL.iter().filter(|&&id| is_set(id)).fold(0, |mask, &id| mask | 1 << id as u32);
+    c.number(9);
+    c.floats(&s.home);
+    c.floats(&[s.fence_radius, s.cruise_alt, low_volts]);
+    c.number(battery.cfg.cells);
+    c.flag(s.calibration_configured);
+    c.number(mask(&|id| s.check_table.is_required(id)));
+    c.number(mask(&|id| s.check_table.passed(id)));
+    c.number(s.mode() as u32);
+    c.floats(&[battery.consumed_mah, battery.r_est, battery.prev_v, battery.prev_i]);
+    c.flag(battery.have_prev);
+    for latch in [battery.low, battery.critical] {
+        c.floats(&[latch.below_s]);
+        c.flag(latch.latched);
+    }
+    c.floats(&[shown.volts, shown.rest_volts, shown.current_a, shown.consumed_mah, shown.soc, shown.r_est]);
+    c.flag(shown.low);
+    c.flag(shown.critical);
+    c.flag(shown.degraded);
+    c.floats(&[s.batt_missing_s]);
+    c.flag(s.batt_present);
+    c.flag(s.batt_seen);
+    c.floats(&s.hold_xy);
+    c.flag(s.hold_regime == HoldRegime::Hold);
+    c.flag(s.hold_braking);
+    c.floats(&[s.brake_s, s.brake_rest_s]);
+    c.number(s.runaway_count);
+    c.number(s.wind_count);
+    c.flag(s.rtl_latched);
+    c.flag(s.motors_were_off);
+    totals.ticks.iter().for_each(|&count| c.number(count));
+    c.number(totals.changes);
+    c.number(s.wp_count as u32);
+    c.number(s.wp_index as u32);
+    c.number(s.zone_count as u32);
+    let (points, zones) = (&s.waypoints[..s.wp_count], &s.zones[..s.zone_count]);
+    points.iter().for_each(|point| c.floats(point));
+    c.unused(3 * (MAX_WAYPOINTS - s.wp_count));
+    for zone in zones {
+        c.floats(&zone.center);
+        c.floats(&[zone.radius]);
+    }
+    c.unused(4 * (MAX_KEEPOUT_ZONES - s.zone_count));
 }
 
 /// The supervisor of an opening. Without the calibration flag `set_calibration` is not called: the first tick then reads the flag.

@@ -1,7 +1,8 @@
 //! `compare PROGRAM REFERENCE PROFILE SEED LINES [--pieces] [--long] [--all]` runs both programs on a generated sheet and stops at the first
 //! difference. With --pieces the sheet is cut at random places on its way into PROGRAM; with --long lines of a megabyte or more are put into
-//! it; with --all it also fails unless every refusal 1..8, every mode and the totals of kind 7 were answered. `compare PROGRAM REFERENCE --sheet FILE` takes a sheet
-//! from a file, and --pieces and --all too. `compare PROGRAM REFERENCE --scale LINES SEED FIGURES` takes so many lines in sheets of all profiles from a seed on, some
+//! it; with --all it also fails unless every refusal 1..8, every mode, the totals of kind 7 and every sort of record of kind 8 were answered: with
+//! points, with zones, with both unless the profile is edge, and with a NaN unless it is flight. `compare PROGRAM REFERENCE --sheet FILE` takes a sheet from a
+//! file, and --pieces and --all too. `compare PROGRAM REFERENCE --scale LINES SEED FIGURES` takes so many lines in sheets of all profiles from a seed on, some
 //! in pieces, some with long lines, and hands them to the program `figures` too.
 
 use reference::compare::{compare, Counts, Sheet};
@@ -60,10 +61,14 @@ fn said(e: io::Error) -> String {
 /// One sheet.
 fn one(programs: [&str; 2], sheet: &Sheet, all: bool, kept: &Path) -> Result<(), String> {
     let counts = compare(programs, sheet, kept)?;
-    let Counts { lines, refusals, modes, totals, .. } = &counts;
-    println!("{}: {lines} lines alike; refusals 0..8: {:?}; modes 0..7: {modes:?}; totals: {totals}", sheet.title, &refusals[..9]);
-    if all && !counts.has_all() {
-        return Err(format!("{}: a refusal, a mode or the totals were not answered", sheet.title));
+    let Counts { lines, refusals, modes, totals, records, .. } = &counts;
+    let title = &sheet.title;
+    println!(
+        "{title}: {lines} lines alike; refusals 0..8: {:?}; modes 0..7: {modes:?}; totals: {totals}; records: {records}",
+        &refusals[..9]
+    );
+    if all && !counts.has_all(sheet.profile) {
+        return Err(format!("{title}: a refusal, a mode, the totals or a sort of record were not answered"));
     }
     Ok(())
 }

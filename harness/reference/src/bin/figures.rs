@@ -1,8 +1,9 @@
-//! `figures < SHEET` counts what a sheet reaches: refusals, modes, totals, events handed to the mode machine, branches of the Rust.
+//! `figures < SHEET` counts what a sheet reaches: refusals, modes, totals, records, events handed to the mode machine, branches of the Rust.
 //! It fails if a branch is not reached that can be reached, or if one is that cannot.
 
 use reference::cover;
-use reference::sheet::{each_line, Answer, Shuttle, MODES};
+use reference::records::RecordCounts;
+use reference::sheet::{each_line, Answer, Shuttle, ANSWER_FIELDS, MODES};
 use std::io;
 use std::process::ExitCode;
 
@@ -38,13 +39,17 @@ const UNREACHABLE: [(&str, &str); 11] = [
 
 fn main() -> ExitCode {
     let mut shuttle = Shuttle::new();
-    let (mut lines, mut refusals, mut modes, mut totals) = (0u64, [0u64; 9], [0u64; 8], 0u64);
+    let (mut lines, mut refusals, mut modes, mut totals, mut records) = (0u64, [0u64; 9], [0u64; 8], 0u64, RecordCounts::default());
     let read = each_line(&mut io::stdin().lock(), |line| {
         let answer = shuttle.answer(line);
         lines += 1;
         refusals[answer[0] as usize] += 1;
         modes[answer[1] as usize] += 1;
-        totals += u64::from(matches!(answer, Answer::Totals(_)));
+        match &answer {
+            Answer::Ordinary(_) => {}
+            Answer::Totals(_) => totals += 1,
+            Answer::Record(numbers) => records.count(&numbers[ANSWER_FIELDS..]),
+        }
         Ok(())
     });
     if let Err(e) = read {
@@ -61,6 +66,7 @@ fn main() -> ExitCode {
         println!("  {mode}: {count}");
     }
     println!("totals answered: {totals}");
+    println!("records answered: {records}");
     println!("events handed to the mode machine, by the mode met (+ without a position):");
     let mut pairs = 0;
     for (m, mode) in MODES.iter().enumerate() {
@@ -91,7 +97,7 @@ fn main() -> ExitCode {
         "{reached} of {all} branches reached, {} cannot be, {faults} faults; {pairs} of 96 pairs of mode and event",
         UNREACHABLE.len()
     );
-    let answered = refusals[1..].iter().chain(&modes).chain([&totals]).all(|&n| n > 0);
+    let answered = refusals[1..].iter().chain(&modes).chain([&totals]).all(|&n| n > 0) && records.has_all(None);
     if faults == 0 && pairs == 96 && answered {
         ExitCode::SUCCESS
     } else {

@@ -59,9 +59,9 @@ pub fn damaged(r: &mut Random, numbers: &[u32], line: &[u8]) -> Vec<u8> {
     }
 }
 
-/// A line of kind 7; once in so many times with a field too many, or damaged. None of these changes anything.
-pub fn totals(r: &mut Random, damage_one_in: u64) -> Vec<u8> {
-    let line = numbers_line(&[7]);
+/// A line of a kind that is asked alone, 7 or 8; once in so many times with a field too many, or damaged. None of these changes anything.
+pub fn asked_alone(r: &mut Random, kind: u32, damage_one_in: u64) -> Vec<u8> {
+    let line = numbers_line(&[kind]);
     if !r.one_in(damage_one_in) {
         return line;
     }
@@ -70,7 +70,7 @@ pub fn totals(r: &mut Random, damage_one_in: u64) -> Vec<u8> {
         1 => longer(r, &line),
         2 => bad_byte(r, &line),
         3 => bad_field(r, &line),
-        _ => numbers_line(&[7, r.pick(&[0, 1, 7, 4294967295])]),
+        _ => numbers_line(&[kind, r.pick(&[0, 1, kind, 4294967295])]),
     }
 }
 

@@ -16,8 +16,11 @@ use std::io::{self, Write};
 
 /// Once in so many lines comes one of a megabyte or more, where they are asked for.
 const LONG_ONE_IN: u64 = 20_000;
-/// Makes the draws of kind 7 others than those of the days.
+/// Make the draws of kinds 7 and 8 others than those of the days, and than each other's.
 const TOTALS_SEED: u64 = 7 << 32;
+const RECORDS_SEED: u64 = 8 << 32;
+/// Before an opening a line of kind 8 comes once in so many times.
+const RECORD_BEFORE_OPENING: u64 = 8;
 
 /// The sort of sheet.
 #[derive(Clone, Copy, Debug, PartialEq, Eq)]
@@ -48,15 +51,35 @@ impl Display for Profile {
     }
 }
 
-/// Write a sheet of so many lines; where `long`, lines of a megabyte or more stand among them.
-pub fn generate(profile: Profile, seed: u64, lines: usize, long: bool, out: &mut dyn Write) -> io::Result<()> {
+/// What stands among the lines of the days, which are the same whatever is chosen here.
+#[derive(Clone, Copy, Debug)]
+pub struct Among {
+    /// Lines of a megabyte or more.
+    pub long: bool,
+    /// Lines of kind 8.
+    pub records: bool,
+}
+
+impl Among {
+    /// What a sheet has unless it is said otherwise.
+    pub const USUAL: Among = Among { long: false, records: true };
+}
+
+/// Write a sheet of so many lines.
+pub fn generate(profile: Profile, seed: u64, lines: usize, among: Among, out: &mut dyn Write) -> io::Result<()> {
     let mut g = Generator {
-        long: long.then(|| Random::new(!seed)),
+        long: among.long.then(|| Random::new(!seed)),
         totals: Random::new(seed ^ TOTALS_SEED),
         totals_one_in: match profile {
             Profile::Wild => 30,
             Profile::Flight => 300,
             Profile::Edge => 50,
+        },
+        records: among.records.then(|| Random::new(seed ^ RECORDS_SEED)),
+        records_one_in: match profile {
+            Profile::Wild => 150,
+            Profile::Flight => 600,
+            Profile::Edge => 150,
         },
         random: Random::new(seed),
         shuttle: Shuttle::new(),
@@ -97,6 +120,9 @@ fn before_opening(g: &mut Generator) -> Step {
     g.points(&[])?;
     g.zones(&[])?;
     g.line(b"          7")?;
+    if g.records.is_some() {
+        g.line(b"          8")?;
+    }
     g.bytes(b"12")
 }
 
@@ -121,6 +147,10 @@ pub(crate) struct Generator<'a> {
     totals: Random,
     /// Once in so many lines comes one of kind 7; while a report is due, which refuses it, a quarter as often.
     totals_one_in: u64,
+    /// Draws the lines of kind 8 in the same way, where there are any.
+    records: Option<Random>,
+    /// Once in so many lines comes one of kind 8; while a report is due, which refuses it, a quarter as often.
+    records_one_in: u64,
     left: usize,
     written: usize,
     buffer: Vec<u8>,
@@ -228,11 +258,13 @@ impl Generator<'_> {
         Ok(())
     }
 
-    /// Write a line of numbers; now and then a damaged line or one of kind 7 before it.
+    /// Write a line of numbers; now and then a damaged line or one of kind 7 or 8 before it.
     pub fn numbers(&mut self, numbers: &[u32]) -> Step {
-        if self.totals.one_in(self.totals_one_in * if self.shuttle.report_due() { 4 } else { 1 }) {
+        let rarer = if self.shuttle.report_due() { 4 } else { 1 };
+        if self.totals.one_in(self.totals_one_in * rarer) {
             self.totals()?;
         }
+        self.record_one_in(self.records_one_in * rarer)?;
         let mut line = Vec::with_capacity(numbers.len() * 11);
         write_fields(&mut line, numbers);
         if self.random.one_in(self.damage_one_in) {
@@ -247,15 +279,23 @@ impl Generator<'_> {
 
     /// A line of kind 7, damaged as often as others are.
     fn totals(&mut self) -> Step {
-        let line = damage::totals(&mut self.totals, self.damage_one_in);
+        let line = damage::asked_alone(&mut self.totals, 7, self.damage_one_in);
         self.line(&line)
     }
 
-    /// An opening, every other time behind a line of kind 7: it sets the totals to zero.
+    /// Once in so many times a line of kind 8, damaged as often as others are.
+    fn record_one_in(&mut self, n: u64) -> Step {
+        let damage_one_in = self.damage_one_in;
+        let line = self.records.as_mut().and_then(|r| r.one_in(n).then(|| damage::asked_alone(r, 8, damage_one_in)));
+        line.map_or(Ok(()), |line| self.line(&line))
+    }
+
+    /// An opening, every other time behind a line of kind 7: it sets the totals to zero. Behind one of kind 8 too, which has what the day left.
     pub fn open(&mut self, o: OpeningLine) -> Step {
         if self.totals.one_in(2) {
             self.totals()?;
         }
+        self.record_one_in(RECORD_BEFORE_OPENING)?;
         let [x, y, z] = o.home.map(f32::to_bits);
         let floats = [o.fence, o.cruise, o.low_volts].map(f32::to_bits);
         let [fence, cruise, low] = floats;
@@ -294,7 +334,7 @@ impl Generator<'_> {
         self.numbers(&numbers)
     }
 
-    /// Lines of the days so far, those of kind 7 left out.
+    /// Lines of the days so far, those of kinds 7 and 8 left out.
     pub fn written(&self) -> usize {
         self.written
     }
