@@ -6,7 +6,7 @@ use mathlib.Core.List.{List, [], _∷_}
 use mathlib.Core.Logic.{_↔_}
 use mathlib.Core.Option.{Option, none}
 use mathlib.Core.Path.{_≡_, refl, sym, ap, _∙_, subst}
-use lib.Dec.{T}
+use lib.Dec.{T, ltb}
 use lib.ListN.{length, getD}
 use Rattle.relay_fsm.specs.declared.Mode.{Mode}
 use Rattle.relay_fsm.specs.Mode.{isAirborneOf}
@@ -33,8 +33,10 @@ use Rattle.requests.specs.Parse.{askedLine}
 use Rattle.requests.specs.ByLine.{needOf, askedWith, lineStep}
 use Rattle.requests.proofs.Buffer.{full-asked}
 use Rattle.requests.proofs.Lent.{LentAsked, line-lent}
-use Rattle.call_lists.specs.Lists.{Call, byValues, byLine, askedOf, callStep, accepted, requested, acceptedRequest, Place, placeAfter, nextPlace, placeFrom, placeAt, start, LentCall, EachLent}
-use Rattle.call_lists.proofs.CallSeen.{Seen, refused, accepts, seen}
+use Rattle.falcon_record.specs.Saved.{recordRoom}
+use Rattle.falcon_core.proofs.Parts.{cond-keeps}
+use Rattle.call_lists.specs.Lists.{Call, byValues, byLine, byArray, askedOf, callStep, accepted, requested, acceptedRequest, Place, placeAfter, nextPlace, placeFrom, placeAt, start, LentCall, EachLent}
+use Rattle.call_lists.proofs.CallSeen.{Seen, refused, accepts, save-asked, seen}
 use Rattle.call_lists.proofs.PlaceHolds.{place-holding, start-holding}
 
 -- ---- by line or by values
@@ -62,6 +64,7 @@ module _ (P : Supervisor → Type 0) (keeps : (s : Supervisor) (r : Request) →
   unfolding callStep lineStep
   call-keeps s (byValues r) h = asked-keeps s (asks r) h
   call-keeps s (byLine line out) h = asked-keeps s (askedOf (byLine line out)) h
+  call-keeps s (byArray a) h = rw (save-asked s a) (asked-keeps s (askedOf (byArray a)) h)
 
   -- holds at every further place
   pub place-keeps : (p : Place) (l : List Call) → P (p .supervisor) → P (placeFrom p l .supervisor)
@@ -111,6 +114,7 @@ fits-call : (s : Supervisor) (c : Call) → LentCall c → FitFlight (s .flight)
 unfolding callStep lineStep
 fits-call s (byValues r) l h = fits-step s r l h
 fits-call s (byLine line out) l h = fits-asked s (askedWith line out) (line-lent line out) h
+fits-call s (byArray a) l h = rw (save-asked s a) (fits-asked s (askedOf (byArray a)) (cond-keeps LentAsked (ltb (length a) recordRoom) _ _ tt tt) h)
 
 fits-from : (p : Place) (l : List Call) → EachLent l → FitFlight (p .supervisor .flight) (p .supervisor .waypoints) → FitFlight (placeFrom p l .supervisor .flight) (placeFrom p l .supervisor .waypoints)
 unfolding placeFrom nextPlace placeAfter

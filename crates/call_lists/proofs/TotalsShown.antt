@@ -1,41 +1,29 @@
 -- The day totals over every list of calls. Assumes nothing.
 use Prim.Native.Nat.{ℕ}
-use native.Mathlib.Omega.{arith}
 use mathlib.Core.List.{List, [], _∷_, _++_, map}
-use mathlib.Core.Option.{Option, some}
-use mathlib.Core.Path.{_≡_, refl, sym, ap, _∙_, subst}
+use mathlib.Core.Path.{_≡_, refl, ap, _∙_}
 use Rattle.falcon_totals.specs.declared.DayTotals.{DayTotals}
 use Rattle.falcon_totals.specs.Totals.{totalsNumbers}
 use Rattle.falcon_core.specs.declared.supervisor.Supervisor.{Supervisor}
 use Rattle.falcon_core.specs.declared.calls.Answered.{Answered}
-use Rattle.falcon_core.specs.Calls.{Request, plans, totals, refusalOf, legsIn, afterOf, outputOf, answerOf, refusedOf, acceptedOf, stepOf, numbersOf}
-use Rattle.falcon_core.proofs.Answers.{step-accepted}
+use Rattle.falcon_core.specs.declared.calls.Output.the-variants.{Totals}
+use Rattle.falcon_core.specs.Calls.{totals, answerOf, refusedOf, numbersOf}
+use Rattle.falcon_core.proofs.Answers.{tells-totals}
 use Rattle.falcon_totals.proofs.Counting.{numbers-are}
 use Rattle.falcon_core.proofs.Totals.{withTotals, totals-apart}
 use Rattle.requests.specs.Kinds.{Asked, refuses, asks, answeredBy}
-use Rattle.requests.specs.ByLine.{askedWith, lineStep, replyNumbers}
-use Rattle.requests.proofs.TotalsLine.{totals-numbers}
-use Rattle.call_lists.specs.Lists.{Call, byValues, byLine, Place, callStep, placeAfter, nextPlace, answersFrom, placeAt, start}
+use Rattle.requests.specs.ByLine.{askedWith, lineStep, extraOf}
+use Rattle.call_lists.specs.Lists.{Call, byValues, byLine, byArray, askedOf, Place, callStep, placeAfter, nextPlace, answersFrom, placeAt, start}
 use Rattle.call_lists.specs.DayTotals.{DayTotalsShown}
-use Rattle.call_lists.proofs.CallSeen.{Seen, refused, accepts, seen}
+use Rattle.call_lists.proofs.CallSeen.{save-asked, seen}
+use Rattle.call_lists.proofs.ToldSeen.{shown-seen}
 use Rattle.call_lists.proofs.PlaceHolds.{place-holding, start-holding}
 
-shown-seen :
-    (s : Supervisor) (a : Answered) (k : Option Request) →
-    Seen s a k →
-    k ≡ some (plans totals) →
-    replyNumbers a ≡ numbersOf (a .answer) ++ totalsNumbers (s .totals)
-shown-seen s _ _ (refused n) e = absurd (let z : _≡_ {A = ℕ} 0 1 = cc in omega arith)
-shown-seen s _ _ (accepts r q) e =
-    let x : r ≡ plans totals = cc in
-    let h : refusalOf s (plans totals) ≡ 0 = ap (refusalOf s) (sym x) ∙ q in
-    let is : stepOf s (plans totals) ≡ acceptedOf (afterOf s r) (outputOf (s .flight) (legsIn s) r) = ap (stepOf s) (sym x) ∙ step-accepted s r q in
-    subst (λ (a : Answered). replyNumbers a ≡ numbersOf (a .answer) ++ totalsNumbers (s .totals)) is (totals-numbers s h)
-
 pub day-totals : DayTotalsShown
+unfolding extraOf
 day-totals here c e =
     let p = placeAt here in
-    shown-seen (p .supervisor) _ _ (seen (p .supervisor) c) e
+    shown-seen (p .supervisor) totals Totals tells-totals _ _ (seen (p .supervisor) c) e
     ∙ ap (λ (l : List ℕ). numbersOf (callStep (p .supervisor) c .answer) ++ l) (ap totalsNumbers (place-holding start here start-holding .totals-are) ∙ numbers-are (p .counted))
 
 -- ---- the ten fields of every answer, whatever the totals are
@@ -53,6 +41,7 @@ call-apart : (s u : Supervisor) (c : Call) → Beside s u → (callStep u c .ans
 unfolding callStep lineStep
 call-apart s u (byValues r) e = rw e (asked-apart s (u .totals) (asks r))
 call-apart s u (byLine line out) e = rw e (asked-apart s (u .totals) (askedWith line out))
+call-apart s u (byArray a) e = rw (save-asked s a, save-asked u a, e) (asked-apart s (u .totals) (askedOf (byArray a)))
 
 -- every list of calls is answered alike from two states that differ in their totals alone
 pub answers-apart :

@@ -3,7 +3,8 @@ use Prim.Native.Nat.{ℕ, _+_}
 use mathlib.Core.Bool.{Bool, true, false, cond, _&&_}
 use mathlib.Core.List.{List, [], _∷_}
 use mathlib.Core.Option.{Option, none, some}
-use lib.Dec.{eqb}
+use lib.Dec.{eqb, ltb}
+use lib.ListN.{length}
 use Rattle.relay_fsm.specs.declared.Mode.{Mode}
 use Rattle.relay_fsm.specs.declared.Mode.the-variants.{Disarmed}
 use Rattle.relay_batt.specs.declared.battery.Battery.{Battery}
@@ -14,25 +15,36 @@ use Rattle.falcon_totals.specs.Counts.{Counted}
 use Rattle.falcon_core.specs.declared.supervisor.Supervisor.{Supervisor}
 use Rattle.falcon_core.specs.declared.calls.Answered.{Answered}
 use Rattle.falcon_core.specs.Supervisor.{unopened}
-use Rattle.falcon_core.specs.Calls.{Request, opens, ticks, reports, commands, plans, startOf, stepOf}
+use Rattle.falcon_core.specs.Calls.{Request, opens, ticks, reports, commands, plans, saves, startOf, stepOf}
+use Rattle.falcon_core.specs.Refusals.{shortBuffer}
 use Rattle.falcon_core.specs.SoundState.{Lent}
 use Rattle.requests.specs.Kinds.{Asked, refuses, asks}
-use Rattle.requests.specs.ByLine.{askedWith, lineStep}
+use Rattle.falcon_record.specs.Saved.{recordRoom, saveStep, savedOver}
+use Rattle.requests.specs.ByLine.{askedWith, lineStep, bufferAfter}
 
--- "by line or by lent values": a line with its answer buffer in full, or what is asked by values
+-- "by line or by lent values": a line with its answer buffer in full, or what is asked by values, the state also with the array that takes its columns
 pub data Call : Type 0 where
   byValues : Request → Call
   byLine : List ℕ → List ℕ → Call
+  byArray : List ℕ → Call
 
 -- what a call asks, or the refusal that fits it whatever the state
 abbrev pub askedOf : Call → Asked
 askedOf (byValues r) = asks r
 askedOf (byLine line out) = askedWith line out
+askedOf (byArray a) = cond (ltb (length a) recordRoom) (refuses shortBuffer) (asks (plans saves))
 
 -- the state after a call and its answer: the definition by which `answer` and the calls by values are stated
 unfoldable pub callStep : Supervisor → Call → Answered
 callStep s (byValues r) = stepOf s r
 callStep s (byLine line out) = lineStep s line out
+callStep s (byArray a) = saveStep s a
+
+-- the memory lent for writing after a call: the answer buffer, or the array
+unfoldable pub lentAfter : Supervisor → Call → List ℕ
+lentAfter s (byValues r) = []
+lentAfter s (byLine line out) = bufferAfter s line out
+lentAfter s (byArray a) = savedOver s a
 
 -- "Accepted means that the refusal answered is 0."
 abbrev pub accepted : Answered → Bool
@@ -133,6 +145,11 @@ unfoldable pub answersFrom : Place → List Call → List Answered
 answersFrom p [] = []
 answersFrom p (c ∷ l) = callStep (p .supervisor) c ∷ answersFrom (nextPlace p c) l
 
+-- and the memory lent for writing after each
+unfoldable pub lentFrom : Place → List Call → List (List ℕ)
+lentFrom p [] = []
+lentFrom p (c ∷ l) = lentAfter (p .supervisor) c ∷ lentFrom (nextPlace p c) l
+
 -- "The first call gets the state with no opening": the place before the first call
 unfoldable pub start : Place
 start = record { supervisor = unopened; mode = Disarmed; config = none; battery = none; began = []; counted = [] }
@@ -150,6 +167,7 @@ latchOf (some b) = b .est .critical .latched
 abbrev pub LentCall : Call → Type 0
 LentCall (byValues r) = Lent r
 LentCall (byLine line out) = Unit {0}
+LentCall (byArray a) = Unit {0}
 
 -- those of a list of calls
 abbrev pub EachLent : List Call → Type 0

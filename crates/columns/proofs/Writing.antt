@@ -303,7 +303,6 @@ put-three x y z a b c d n m o j k ea eb ec jx ky kz p q r =
     let second : m ≡ over (x ++ y) d = put-behind x y d n m j jx (omega arith) first (q ∙ ap (λ (l : List ℕ). putOver j l n) eb) in
     put-behind (x ++ y) z d m o k two (omega arith) second (r ∙ ap (λ (l : List ℕ). putOver k l m) ec) ∙ over-all ((x ++ y) ++ z) d all ∙ append-assoc x y z
 
-
 one-more : (ns : List ℕ) (k : ℕ) → k < length ns → lineOf (take k ns) ++ fieldOf (getD ns k 0) ≡ lineOf (take (k + 1) ns)
 unfolding lineOf
 one-more ns k h =

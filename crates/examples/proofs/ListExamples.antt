@@ -40,12 +40,14 @@ use Rattle.falcon_guidance.specs.Zones.{goalOf, bearingOf, alongOf, perpOf, obs
 use Rattle.requests.specs.ByLine.{needFields, needOf, extraOf, replyNumbers, askedWith, lineStep, replyOf, bufferAfter}
 use Rattle.requests.specs.Parse.{limitFields, readingLine, askedLine}
 use Rattle.columns.specs.Field.{inRange, digits, start as fieldStart, spaced, readField, kindOf, column, columns, fieldOf, put}
-use Rattle.requests.specs.Kinds.{openingFrom, openingLine, readingFrom, batteryOk, tickFrom, tickOk, tickLine, reportLine, commandLine, pointsLine, zonesLine, totalsLine, requestOf}
+use Rattle.requests.specs.Kinds.{openingFrom, openingLine, readingFrom, batteryOk, tickFrom, tickOk, tickLine, reportLine, commandLine, pointsLine, zonesLine, aloneLine, requestOf}
 use Rattle.falcon_totals.specs.Totals.{noTotals, countedOf, totalsNumbers}
 use Rattle.falcon_totals.specs.Counts.{countOf, countsOf}
+use Rattle.falcon_record.specs.Columns.{configColumns, checkColumns, estimatorColumns, shownColumns, silenceColumns, holdColumns, countColumns, useColumns, scalarColumns, placed, placeIn, pointColumns, pointsColumns, zoneColumns, zonesColumns, laterColumns, columnsIn}
+use Rattle.falcon_record.specs.Saved.{columnsOf, saveStep, savedOver}
 use Rattle.columns.specs.Line.{onto, before, fields, lengthOk, readWithin, lineOf}
 use Rattle.call_lists.specs.Lists.{callStep, acceptedRequest, placeAfter, nextPlace, placeFrom, answersFrom, start, calmFrom, ticksFrom}
-use Rattle.call_lists.specs.Lists.{Call, byValues, byLine, Place, latchOf}
+use Rattle.call_lists.specs.Lists.{Call, byValues, byLine, byArray, Place, latchOf}
 
 -- home 0, fence 100, cruise 10, opening volts 14
 opening : Call
@@ -176,6 +178,35 @@ totalled =
     ∷ (0 ∷ 0 ∷ 0 ∷ 0 ∷ 0 ∷ 0 ∷ 0 ∷ 0 ∷ 0 ∷ 21 ∷ 0 ∷ 0 ∷ 0 ∷ 0 ∷ 0 ∷ 0 ∷ 0 ∷ 0 ∷ 0 ∷ [])
     ∷ []
 
+-- the state asked for: by a line with a byte too many and 150 bytes of buffer, by line with 1,869 bytes, with a field too many, by values with an array of
+-- 159 places, of 160, and by line with 1,870 bytes
+saving : List Call
+saving =
+    byLine (lineOf (8 ∷ []) ++ (32 ∷ [])) (replicate 150 0)
+    ∷ byLine (lineOf (8 ∷ [])) (replicate 1869 0)
+    ∷ byLine (lineOf (8 ∷ 0 ∷ [])) (replicate 1870 0)
+    ∷ byArray (replicate 159 7)
+    ∷ byArray (replicate 160 7)
+    ∷ byLine (lineOf (8 ∷ [])) (replicate 1870 0)
+    ∷ []
+
+-- the columns of the state after the breach
+columned : List ℕ
+columned =
+    (9 ∷ 0 ∷ 0 ∷ 0 ∷ 3212836864 ∷ 1092616192 ∷ 1096810496 ∷ 4 ∷ 0 ∷ 0 ∷ 786659 ∷ 5 ∷ 0 ∷ 1019517862 ∷ [])
+    ++ (replicate 27 0 ++ ((1 ∷ 0 ∷ 0 ∷ 0 ∷ 0 ∷ 0 ∷ 0 ∷ 1 ∷ 0 ∷ 0 ∷ 3 ∷ []) ++ replicate 83 0))
+
+-- the numbers answered
+saved : List (List ℕ)
+saved =
+    (9 ∷ 5 ∷ 0 ∷ 0 ∷ 0 ∷ 0 ∷ 0 ∷ 0 ∷ 0 ∷ 21 ∷ [])
+    ∷ (9 ∷ 5 ∷ 0 ∷ 0 ∷ 0 ∷ 0 ∷ 0 ∷ 0 ∷ 0 ∷ 21 ∷ [])
+    ∷ (4 ∷ 5 ∷ 0 ∷ 0 ∷ 0 ∷ 0 ∷ 0 ∷ 0 ∷ 0 ∷ 21 ∷ [])
+    ∷ (9 ∷ 5 ∷ 0 ∷ 0 ∷ 0 ∷ 0 ∷ 0 ∷ 0 ∷ 0 ∷ 21 ∷ [])
+    ∷ ((0 ∷ 5 ∷ 0 ∷ 0 ∷ 0 ∷ 0 ∷ 0 ∷ 0 ∷ 0 ∷ 21 ∷ []) ++ columned)
+    ∷ ((0 ∷ 5 ∷ 0 ∷ 0 ∷ 0 ∷ 0 ∷ 0 ∷ 0 ∷ 0 ∷ 21 ∷ []) ++ columned)
+    ∷ []
+
 -- the modes after each call
 modes : Place → List Call → List ℕ
 modes p [] = []
@@ -209,5 +240,7 @@ seen-in-lists :
     × (final 0 (modes start (flying ++ tumble 50)) ≡ 7)
     × (map replyNumbers (answersFrom (placeFrom start breached) asked) ≡ totalled)
     × (countsOf (placeFrom start breached .counted) ≡ 0 ∷ 0 ∷ 0 ∷ 0 ∷ 0 ∷ 1 ∷ 0 ∷ 0 ∷ 3 ∷ [])
-unfolding kind7 breached asked totalled noTotals countedOf totalsNumbers countOf countsOf totalsAfter totalsLine opening tick flat calmly tripped tilted quiet flying line worked answered answersFrom modes latches tumble final rootBy wholeRoot radicand dropped rounded ranged rootOf maxOf clampOf eventAt rowOf onOf allChecks bitOf withBitOf setOf legacyPassedOf failsOf failingMaskOf outstandingOf firstIn firstBlockerOf openedOf heardOf updateOf lostOf runOf defaultOf forOpeningVoltsOf forPackOf capacityOf cellsOf sanitizeOf knots walk tableOf ocvSocCellOf noneOf shownOf newOf resetOf consumedOf bigStepOf blendOf rEstOf restOf socCoulombOf socOf withAmpsOf voltsOnlyOf updateAmpsOf updateVoltsOf tripOf shapeRefusal sequenceRefusal stateRefusal refusalOf commandedBy startOf startPoints plannedOf flightAfter waypointsAfter afterOf outputOf answerOf refusedOf acceptedOf stepOf numbersOf clearedOf breachOf breachGives breachedOf tiltedOf runawayEnough runawayCounted runawayGives runawayOf gustyOf windEnough windCounted windGives windOf reportedOf lengthOf distanceOf horizSpeedOf brakePointOf enteredOf holdRestOf brakedOf leftOf keptOf heldOf heightOf highOf nearHomeOf nearGroundOf distance3Of arrivedOf milestoneGives legOf advancedOf milestoneOf waypointAdmissibleOf pointAtOf triedOf allAdmissibleOf storedOf loadedOf loadedPointsOf waypointAtOf legWaypointOf currentWaypointOf legsOf outsideGeofenceOf geofenceSaneOf navRowsOf integrityRowsOf readinessRowsOf updatePreflightOf escTelemetryOf landingOf setpointOf commandedOf stateOpenedOf unopened checkedOf poweredOf telemetryOf sensedOf afterBreach afterRunaway afterWind afterMilestone holdingOf answeredOf endedOf tickOf givenOf goalOf bearingOf alongOf perpOf obstructsOf threatensOf tangentOf urgencyOf ringOf deflectedOf aroundOf aroundAllOf avoidOf zoneAtOf zonesKeptOf storedZonesOf loadedZonesOf askedLine askedWith lineStep replyOf bufferAfter inRange digits fieldStart spaced readField column columns fieldOf put openingFrom openingLine readingFrom batteryOk tickFrom tickOk tickLine reportLine commandLine pointsLine zonesLine requestOf onto before fields lengthOk readWithin lineOf callStep acceptedRequest placeAfter nextPlace placeFrom start calmFrom ticksFrom add sub mul div neg lt eq le ne ofBits ofInt round units isNan size toBits kindOf needFields needOf extraOf replyNumbers limitFields readingLine ones
-seen-in-lists = (refl, refl, refl, refl, refl, refl, refl, refl, refl)
+    × (map replyNumbers (answersFrom (placeFrom start breached) saving) ≡ saved)
+    × (savedOver (placeFrom start breached .supervisor) (replicate 161 7) ≡ columned ++ replicate 26 7)
+unfolding kind7 breached asked totalled noTotals countedOf totalsNumbers countOf countsOf totalsAfter aloneLine saving columned saved saveStep savedOver columnsOf columnsIn scalarColumns configColumns checkColumns estimatorColumns shownColumns silenceColumns holdColumns countColumns useColumns pointsColumns zonesColumns laterColumns pointColumns zoneColumns placed placeIn opening tick flat calmly tripped tilted quiet flying line worked answered answersFrom modes latches tumble final rootBy wholeRoot radicand dropped rounded ranged rootOf maxOf clampOf eventAt rowOf onOf allChecks bitOf withBitOf setOf legacyPassedOf failsOf failingMaskOf outstandingOf firstIn firstBlockerOf openedOf heardOf updateOf lostOf runOf defaultOf forOpeningVoltsOf forPackOf capacityOf cellsOf sanitizeOf knots walk tableOf ocvSocCellOf noneOf shownOf newOf resetOf consumedOf bigStepOf blendOf rEstOf restOf socCoulombOf socOf withAmpsOf voltsOnlyOf updateAmpsOf updateVoltsOf tripOf shapeRefusal sequenceRefusal stateRefusal refusalOf commandedBy startOf startPoints plannedOf flightAfter waypointsAfter afterOf outputOf answerOf refusedOf acceptedOf stepOf numbersOf clearedOf breachOf breachGives breachedOf tiltedOf runawayEnough runawayCounted runawayGives runawayOf gustyOf windEnough windCounted windGives windOf reportedOf lengthOf distanceOf horizSpeedOf brakePointOf enteredOf holdRestOf brakedOf leftOf keptOf heldOf heightOf highOf nearHomeOf nearGroundOf distance3Of arrivedOf milestoneGives legOf advancedOf milestoneOf waypointAdmissibleOf pointAtOf triedOf allAdmissibleOf storedOf loadedOf loadedPointsOf waypointAtOf legWaypointOf currentWaypointOf legsOf outsideGeofenceOf geofenceSaneOf navRowsOf integrityRowsOf readinessRowsOf updatePreflightOf escTelemetryOf landingOf setpointOf commandedOf stateOpenedOf unopened checkedOf poweredOf telemetryOf sensedOf afterBreach afterRunaway afterWind afterMilestone holdingOf answeredOf endedOf tickOf givenOf goalOf bearingOf alongOf perpOf obstructsOf threatensOf tangentOf urgencyOf ringOf deflectedOf aroundOf aroundAllOf avoidOf zoneAtOf zonesKeptOf storedZonesOf loadedZonesOf askedLine askedWith lineStep replyOf bufferAfter inRange digits fieldStart spaced readField column columns fieldOf put openingFrom openingLine readingFrom batteryOk tickFrom tickOk tickLine reportLine commandLine pointsLine zonesLine requestOf onto before fields lengthOk readWithin lineOf callStep acceptedRequest placeAfter nextPlace placeFrom start calmFrom ticksFrom add sub mul div neg lt eq le ne ofBits ofInt round units isNan size toBits kindOf needFields needOf extraOf replyNumbers limitFields readingLine ones
+seen-in-lists = (refl, refl, refl, refl, refl, refl, refl, refl, refl, refl, refl)

@@ -177,7 +177,7 @@ unfolding refusalOf shapeRefusal stateRefusal
 told-refusal s _ _ tells-totals = or-none (sequenceRefusal (s .opened) (s .«report_due») false)
 told-refusal s _ _ tells-state = or-none (sequenceRefusal (s .opened) (s .«report_due») false)
 
-told-output : (s : Supervisor) (p : Planning) (out : Output) → Telling p out → outputOf (s .flight) (legsIn s) (plans p) ≡ out
+pub told-output : (s : Supervisor) (p : Planning) (out : Output) → Telling p out → outputOf (s .flight) (legsIn s) (plans p) ≡ out
 unfolding outputOf
 told-output s _ _ tells-totals = refl
 told-output s _ _ tells-state = refl

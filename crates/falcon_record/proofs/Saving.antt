@@ -12,7 +12,7 @@ use Rattle.falcon_core.specs.Calls.{plans, saves, answerOf, refusedOf, stepOf}
 use Rattle.falcon_core.specs.Refusals.{shortBuffer}
 use Rattle.falcon_record.specs.Form.{zoneWidth, zonesAt, laterAt, fieldsOf}
 use Rattle.falcon_record.specs.Columns.{scalarColumns, pointsColumns, zonesColumns, laterColumns, columnsIn}
-use Rattle.falcon_record.specs.Saved.{writtenForm, columnsOf, recordRoom, saveStep, savedOver}
+use Rattle.falcon_record.specs.Saved.{writtenForm, columnsOf, recordFields, recordRoom, saveStep, savedOver}
 use Rattle.falcon_record.proofs.Lengths.{length-columns}
 
 -- the columns written: those before the first point, the points and the zones
@@ -22,9 +22,14 @@ columns-parts s =
     ap (λ (l : List ℕ). scalarColumns s ++ (pointsColumns writtenForm s ++ l)) (sym (append-nil (zonesColumns writtenForm (s .flight .zones))))
 
 -- 135 of them
-pub columns-count : (s : Supervisor) → length (columnsOf s) ≡ 135
-unfolding columnsOf fieldsOf laterAt zonesAt zoneWidth
+pub columns-count : (s : Supervisor) → length (columnsOf s) ≡ recordFields
+unfolding columnsOf
 columns-count s = length-columns writtenForm s
+
+-- at most the 160 that there is room for
+pub record-fits : recordFields ≤ recordRoom
+unfolding fieldsOf laterAt zonesAt zoneWidth
+record-fits = omega arith
 
 module _ (s : Supervisor) (a : List ℕ) where
   -- "a refusal where it is too short": nothing is put
@@ -41,7 +46,7 @@ module _ (s : Supervisor) (a : List ℕ) where
     pub saved-accepted : (m : List ℕ) → stepOf s (plans saves) .answer .refusal ≡ 0 → m ≡ putOver 0 (columnsOf s) a → m ≡ savedOver s a
     unfolding savedOver
     saved-accepted m e q =
-        put-behind [] (columnsOf s) a a m 0 refl (omega (arith, columns-count s)) refl q ∙ rw (← full-saved, e)
+        put-behind [] (columnsOf s) a a m 0 refl (omega (arith, columns-count s, record-fits)) refl q ∙ rw (← full-saved, e)
 
     -- refused: what stood there
     pub saved-refused : (stepOf s (plans saves) .answer .refusal ≡ 0 → ⊥) → a ≡ savedOver s a

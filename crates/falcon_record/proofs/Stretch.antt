@@ -97,7 +97,7 @@ module _ (f : ℕ → List ℕ) (w : ℕ) (h : (i : ℕ) → length (f i) ≡ w)
   stretch-next n m p i k less q put-is =
       let room : w * i + w ≤ w * size = omega (arith, mul-le-mul-left w less, mul-suc w i) in
       let is : m ≡ over (placed f i ++ f i) d =
-          put-behind (placed f i) (f i) d n m (w * i) (length-placed f w h i) (omega (arith, h i)) (k .is) (put-is ∙ ap (λ (x : List ℕ). putOver (w * i) x n) q) in
+      put-behind (placed f i) (f i) d n m (w * i) (length-placed f w h i) (omega (arith, h i)) (k .is) (put-is ∙ ap (λ (x : List ℕ). putOver (w * i) x n) q) in
       let some : length (placed f i ++ f i) ≤ w * size = omega (arith, length-placed f w h (suc i), mul-suc w i) in
       record {
         most = less;

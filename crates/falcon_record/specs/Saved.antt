@@ -9,7 +9,7 @@ use Rattle.falcon_core.specs.declared.supervisor.Supervisor.{Supervisor}
 use Rattle.falcon_core.specs.declared.calls.Answered.{Answered}
 use Rattle.falcon_core.specs.Calls.{plans, saves, refusedOf, stepOf}
 use Rattle.falcon_core.specs.Refusals.{shortBuffer}
-use Rattle.falcon_record.specs.Form.{Form, firstForm}
+use Rattle.falcon_record.specs.Form.{Form, firstForm, fieldsOf}
 use Rattle.falcon_record.specs.Columns.{columnsIn}
 
 -- the form that is written
@@ -19,6 +19,10 @@ writtenForm = firstForm
 -- "the columns of a line of kind 9", as they are written
 unfoldable pub columnsOf : Supervisor → List ℕ
 columnsOf s = columnsIn writtenForm s
+
+-- how many they are
+abbrev pub recordFields : ℕ
+recordFields = fieldsOf writtenForm
 
 -- "Such a line may have 160 fields": what a buffer or an array for it must have room for
 abbrev pub recordRoom : ℕ

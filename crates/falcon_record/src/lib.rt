@@ -138,11 +138,7 @@ fn hold_numbers(f: FlightSupervisor) -> [u32; 10]
 fn use_numbers(f: FlightSupervisor) -> [u32; 3]
     ensures { λ r. ⌜ r ≡ useColumns f ⌝ }
 {
-    [
-        f.mission.wp_count,
-        f.mission.wp_index,
-        f.zones.zone_count,
-    ]
+    [f.mission.wp_count, f.mission.wp_index, f.zones.zone_count]
 }
 
 // The kind, the configuration, the masks and the mode.

@@ -16,7 +16,7 @@ use Rattle.falcon_core.specs.Calls.{plans, points, zones}
 use Rattle.falcon_guidance.specs.State.{pointNumbers, zoneNumbers}
 use Rattle.requests.specs.declared.kinds.Kind.{Kind}
 use Rattle.requests.specs.declared.kinds.Kind.the-variants.{Flight, Other}
-use Rattle.requests.specs.declared.kinds.OtherCall.the-variants.{Refused, Opens, Points, Zones, Totals}
+use Rattle.requests.specs.declared.kinds.OtherCall.the-variants.{Refused, Opens, Points, Zones, Totals, Saves}
 use Rattle.columns.specs.Line.{read, lineFields, lengthOk, readWithin, lineAnswer, numbersOver, numberAt}
 use Rattle.requests.specs.Kinds.{Asked, refuses, asks, listHead, listFields, requestOf, listLine, listFloats, Says}
 use Rattle.falcon_core.specs.Refusals.{notALine}
@@ -117,3 +117,4 @@ says-among (Other (Opens o)) a n asked h = h
 says-among (Other Points) a n asked (e, h) = (sym (ap (λ (l : List ℕ). asks (plans (points (listFloats l)))) (same-list pointNumbers n a h)) ∙ e, list-among pointNumbers n a h)
 says-among (Other Zones) a n asked (e, h) = (sym (ap (λ (l : List ℕ). asks (plans (zones (listFloats l)))) (same-list zoneNumbers n a h)) ∙ e, list-among zoneNumbers n a h)
 says-among (Other Totals) a n asked h = h
+says-among (Other Saves) a n asked h = h

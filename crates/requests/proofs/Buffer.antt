@@ -10,23 +10,24 @@ use lib.ListN.{length, drop, length-append}
 use Rattle.falcon_core.specs.declared.supervisor.Supervisor.{Supervisor}
 use Rattle.falcon_core.specs.declared.calls.Answered.{Answered}
 use Rattle.falcon_core.specs.declared.calls.Output.{Output}
-use Rattle.falcon_core.specs.declared.calls.Output.the-variants.{Nothing, Ticks, Totals}
-use Rattle.falcon_core.specs.Calls.{Request, plans, totals, answerFields, refusalOf, legsIn, outputOf, afterOf, answerOf, refusedOf, acceptedOf, numbersOf}
+use Rattle.falcon_core.specs.Calls.{Request, plans, totals, saves, answerFields, refusalOf, legsIn, outputOf, afterOf, answerOf, refusedOf, acceptedOf, numbersOf}
 use Rattle.falcon_core.specs.Refusals.{shortBuffer, notALine}
 use Rattle.falcon_core.proofs.Answers.{step-refused, step-accepted}
 use Rattle.falcon_core.proofs.Parts.{cond-keeps}
 use Rattle.falcon_totals.specs.Totals.{totalsCount, totalsNumbers}
+use Rattle.falcon_record.specs.Saved.{recordFields}
+use Rattle.falcon_record.proofs.Saving.{columns-count, record-fits}
 use Rattle.columns.specs.declared.field.FieldRead.{FieldRead}
 use Rattle.columns.specs.declared.field.FieldRead.the-variants.{Number, Bad}
 use Rattle.columns.specs.Field.{fieldWidth, numberLimit, inRange, kindOf}
 use Rattle.columns.proofs.Writing.{length-line}
 use Rattle.columns.specs.Line.{Reading, read, broken, lineOf, writtenOver, numberAt}
-use Rattle.requests.specs.Kinds.{Asked, refuses, asks, answeredBy, totalsKind, requestOf}
+use Rattle.requests.specs.Kinds.{Asked, refuses, asks, answeredBy, totalsKind, savesKind, requestOf}
 use Rattle.requests.specs.Parse.{askedBy, readingLine, askedLine}
 use Rattle.falcon_core.proofs.Numbers.{numbers-count}
 use Rattle.requests.proofs.Asking.{reading-kind}
 use Rattle.requests.proofs.ByKind.{request-keeps}
-use Rattle.requests.specs.ByLine.{answerWidth, totalsAnswer, needFields, mostNeeded, needOf, askedWith, lineStep, extraOf, replyNumbers, replyOf, bufferAfter}
+use Rattle.requests.specs.ByLine.{answerWidth, totalsAnswer, recordNeed, needFields, mostNeeded, needOf, askedWith, lineStep, extraOf, replyNumbers, replyOf, bufferAfter}
 
 -- ---- what a line needs
 
@@ -39,24 +40,35 @@ need-seven : (v : ℕ) → v ≡ totalsKind → totalsAnswer ≡ needFields (Num
 unfolding needFields
 need-seven v e = rw e
 
--- and under 110 for any other
-pub need-other : (v : ℕ) → (v ≡ totalsKind → ⊥) → answerFields ≡ needFields (inRange v)
+-- "a buffer under 1,870 bytes for kind 8"
+pub need-record : (v : ℕ) → v ≡ savesKind → recordNeed ≡ needFields (inRange v)
 unfolding needFields inRange
-need-other v h = go (ltb v numberLimit) refl
+need-record v e = rw e
+
+need-eight : (v : ℕ) → v ≡ savesKind → recordNeed ≡ needFields (Number v)
+unfolding needFields
+need-eight v e = rw e
+
+-- and under 110 for any other
+pub need-other : (v : ℕ) → (v ≡ totalsKind → ⊥) → (v ≡ savesKind → ⊥) → answerFields ≡ needFields (inRange v)
+unfolding needFields inRange
+need-other v h k = go (ltb v numberLimit) refl
   where
     go : (b : Bool) → ltb v numberLimit ≡ b → answerFields ≡ needFields (cond (ltb v numberLimit) (Number v) Bad)
-    go true e = rw (e, ne-eqb v totalsKind h)
+    go true e = rw (e, ne-eqb v totalsKind h, ne-eqb v savesKind k)
     go false e = rw e
 
-need-least : (k : FieldRead) → answerFields ≤ needFields k
+-- what holds of the three needs holds of every line's
+need-keeps : (P : ℕ → Type 0) (k : FieldRead) → P totalsAnswer → P recordNeed → P answerFields → P (needFields k)
 unfolding needFields
-need-least (Number n) = cond-keeps (λ (m : ℕ). answerFields ≤ m) (eqb n totalsKind) _ _ (omega arith) (omega arith)
-need-least Bad = omega arith
+need-keeps P (Number n) t r a = cond-keeps P (eqb n totalsKind) _ _ t (cond-keeps P (eqb n savesKind) _ _ r a)
+need-keeps P Bad t r a = a
+
+need-least : (k : FieldRead) → answerFields ≤ needFields k
+need-least k = need-keeps (λ (m : ℕ). answerFields ≤ m) k (omega arith) (omega arith) (omega arith)
 
 pub need-most : (k : FieldRead) → needFields k ≤ mostNeeded
-unfolding needFields
-need-most (Number n) = cond-keeps (λ (m : ℕ). m ≤ mostNeeded) (eqb n totalsKind) _ _ (omega arith) (omega arith)
-need-most Bad = omega arith
+need-most k = need-keeps (λ (m : ℕ). m ≤ mostNeeded) k (omega arith) (omega arith) (omega arith)
 
 -- every line needs room for ten fields
 pub needs-least : (line : List ℕ) → answerWidth ≤ needOf line
@@ -110,6 +122,7 @@ numbers-fit ns =
     (ten-fit need _ least (λ s. refl))
     (ten-fit need _ least (λ s. refl))
     (λ e s. omega (arith, need-seven (numberAt ns 0) e, step-extra s (plans totals) totalsCount (refusalOf s (plans totals)) refl refl))
+    (λ e s. omega (arith, need-eight (numberAt ns 0) e, step-extra s (plans saves) recordFields (refusalOf s (plans saves)) refl (columns-count (afterOf s (plans saves))), record-fits))
 
 line-fit : (line : List ℕ) (k : Reading) → readingLine line ≡ k → Fits (needFields (kindOf line)) (askedBy k)
 line-fit line (read ns) e = subst (λ (f : FieldRead). Fits (needFields f) (requestOf ns)) (sym (reading-kind line ns e)) (numbers-fit ns)
@@ -129,22 +142,15 @@ reply-fits s line =
       line-fit line (readingLine line) refl s,
     )
 
--- an answer without the totals has its ten numbers
-extra-none : (s : Supervisor) (o : Output) → (o ≡ Totals → ⊥) → extraOf s o ≡ []
-unfolding extraOf
-extra-none s Nothing h = refl
-extra-none s (Ticks t) h = refl
-extra-none s Totals h = absurd (h refl)
-
-pub reply-ten : (a : Answered) → (a .answer .output ≡ Totals → ⊥) → numbersOf (a .answer) ≡ replyNumbers a
+-- an answer has the numbers of what it tells behind its ten
+pub reply-extra : (a : Answered) (o : Output) → a .answer .output ≡ o → replyNumbers a ≡ numbersOf (a .answer) ++ extraOf (a .supervisor) o
 unfolding replyNumbers
-reply-ten a h =
-    sym (ap (λ (l : List ℕ). numbersOf (a .answer) ++ l) (extra-none (a .supervisor) (a .answer .output) h) ∙ append-nil (numbersOf (a .answer)))
+reply-extra a o e = ap (λ (x : Output). numbersOf (a .answer) ++ extraOf (a .supervisor) x) e
 
--- one with them has these behind its ten
-pub reply-totals : (a : Answered) → a .answer .output ≡ Totals → numbersOf (a .answer) ++ totalsNumbers (a .supervisor .totals) ≡ replyNumbers a
-unfolding replyNumbers extraOf
-reply-totals a e = rw e
+-- and none where it tells nothing
+pub reply-ten : (a : Answered) → extraOf (a .supervisor) (a .answer .output) ≡ [] → numbersOf (a .answer) ≡ replyNumbers a
+unfolding replyNumbers
+reply-ten a h = sym (ap (λ (l : List ℕ). numbersOf (a .answer) ++ l) h ∙ append-nil (numbersOf (a .answer)))
 
 -- numbers that fit are written, and what stands behind them stays
 pub written-fits : (ns out : List ℕ) → fieldWidth * length ns ≤ length out → writtenOver ns out ≡ lineOf ns ++ drop (length (lineOf ns)) out

@@ -48,7 +48,7 @@ floats-lent (n ∷ ns) (suc i) = floats-lent ns i
 request-lent : (ns : List ℕ) → LentAsked (requestOf ns)
 request-lent ns =
     let floats = floats-lent (drop listHead ns) in
-    request-keeps LentAsked (λ n. tt) ns (opening-lent ns) (tick-lent ns) tt (λ ev. tt) floats floats (λ e. tt)
+    request-keeps LentAsked (λ n. tt) ns (opening-lent ns) (tick-lent ns) tt (λ ev. tt) floats floats (λ e. tt) (λ e. tt)
 
 reading-asks : (r : Reading) → LentAsked (askedBy r)
 reading-asks (read ns) = request-lent ns

@@ -2,4 +2,4 @@ pub mod Asking
 pub mod ByKind
 pub mod Buffer
 pub mod Lent
-pub mod TotalsLine
+pub mod ToldLines

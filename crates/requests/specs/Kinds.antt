@@ -20,9 +20,9 @@ use Rattle.requests.specs.declared.kinds.Kind.the-variants.{Flight, Othe
 use Rattle.requests.specs.declared.kinds.FlightCall.{FlightCall}
 use Rattle.requests.specs.declared.kinds.FlightCall.the-variants.{Ticks, Reports, Commands}
 use Rattle.requests.specs.declared.kinds.OtherCall.{OtherCall}
-use Rattle.requests.specs.declared.kinds.OtherCall.the-variants.{Refused, Opens, Points, Zones, Totals}
+use Rattle.requests.specs.declared.kinds.OtherCall.the-variants.{Refused, Opens, Points, Zones, Totals, Saves}
 use Rattle.falcon_guidance.specs.State.{pointNumbers, zoneNumbers}
-use Rattle.falcon_core.specs.Calls.{Request, opens, ticks, reports, commands, plans, points, zones, totals, refusedOf, stepOf}
+use Rattle.falcon_core.specs.Calls.{Request, opens, ticks, reports, commands, plans, points, zones, totals, saves, refusedOf, stepOf}
 use Rattle.columns.specs.Line.{numberAt, floatAt, flagAt}
 use Rattle.falcon_record.specs.From.{pointFrom}
 use Rattle.falcon_core.specs.Refusals.{unknownKind, wrongCount, outOfRange}
@@ -151,11 +151,16 @@ zonesLine ns = cond (isList zoneNumbers ns) (asks (plans (zones (listFloats ns))
 abbrev pub totalsKind : ℕ
 totalsKind = 7
 
-abbrev pub totalsFields : ℕ
-totalsFields = 1
+-- U2: "Line kind 8, alone"
+abbrev pub savesKind : ℕ
+savesKind = 8
 
-unfoldable pub totalsLine : List ℕ → Asked
-totalsLine ns = cond (eqb (length ns) totalsFields) (asks (plans totals)) (refuses wrongCount)
+-- the kind is the only field
+abbrev pub aloneFields : ℕ
+aloneFields = 1
+
+unfoldable pub aloneLine : List ℕ → Asked → Asked
+aloneLine ns asked = cond (eqb (length ns) aloneFields) asked (refuses wrongCount)
 
 -- "The first field is the kind"
 unfoldable pub requestOf : List ℕ → Asked
@@ -165,7 +170,9 @@ requestOf ns =
     (cond (eqb (numberAt ns 0) 3) (reportLine ns)
     (cond (eqb (numberAt ns 0) 4) (commandLine ns)
     (cond (eqb (numberAt ns 0) 5) (pointsLine ns)
-    (cond (eqb (numberAt ns 0) 6) (zonesLine ns) (cond (eqb (numberAt ns 0) totalsKind) (totalsLine ns) (refuses unknownKind)))))))
+    (cond (eqb (numberAt ns 0) 6) (zonesLine ns)
+    (cond (eqb (numberAt ns 0) totalsKind) (aloneLine ns (asks (plans totals)))
+    (cond (eqb (numberAt ns 0) savesKind) (aloneLine ns (asks (plans saves))) (refuses unknownKind))))))))
 
 -- the numbers of a line of points or zones, which are the first of these
 abbrev pub listLine : ℕ → List ℕ → List ℕ
@@ -184,6 +191,7 @@ otherAsks ns (Opens o) = asks (opens o)
 otherAsks ns Points = asks (plans (points (listFloats (listLine pointNumbers ns))))
 otherAsks ns Zones = asks (plans (zones (listFloats (listLine zoneNumbers ns))))
 otherAsks ns Totals = asks (plans totals)
+otherAsks ns Saves = asks (plans saves)
 
 -- what each case of `Kind` asks
 abbrev pub kindAsks : List ℕ → Kind → Asked
@@ -197,6 +205,7 @@ Listed (Opens o) ns = Unit
 Listed Points ns = listFields pointNumbers ns ≤ length ns
 Listed Zones ns = listFields zoneNumbers ns ≤ length ns
 Listed Totals ns = Unit
+Listed Saves ns = Unit
 
 abbrev pub KindListed : Kind → List ℕ → Type 0
 KindListed (Flight call) ns = Unit

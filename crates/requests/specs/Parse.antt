@@ -6,6 +6,7 @@ use Rattle.columns.specs.declared.field.FieldRead.the-variants.{Number, Bad}
 use Rattle.columns.specs.Field.{kindOf}
 use Rattle.columns.specs.Line.{Reading, read, broken, lineFields, readWithin, numbersOver}
 use Rattle.falcon_core.specs.Refusals.{notALine}
+use Rattle.falcon_record.specs.Saved.{recordRoom}
 use Rattle.requests.specs.Kinds.{Asked, refuses, requestOf}
 
 -- what a line asks once it is read
@@ -18,9 +19,10 @@ unfoldable pub limitFields : FieldRead → ℕ
 limitFields (Number n) = lineFields
 limitFields Bad = lineFields
 
--- the most fields that a line of any kind may have
+-- the most fields that a line of any kind may have, and an array for a line's numbers or its answer's has places for. U2: a line of kind 9 "may have 160
+-- fields", though none is taken yet
 abbrev pub mostFields : ℕ
-mostFields = lineFields
+mostFields = recordRoom
 
 -- what a line says
 unfoldable pub readingLine : List ℕ → Reading

@@ -6,7 +6,7 @@ ghost use Rattle.falcon_guidance.specs.State.{zoneNumbers};
 ghost use Rattle.columns.specs.Line.{floatAt, flagAt};
 ghost use Rattle.falcon_record.specs.From.{pointFrom};
 ghost use Rattle.requests.specs.Kinds.{isFlag, openingFields, openingFrom, openingLine, tickFields, readingFrom, batteryOk, tickFrom, tickOk, tickLine};
-ghost use Rattle.requests.specs.Kinds.{reportLine, commandLine, isList, pointsLine, zonesLine, totalsLine, requestOf, Says};
+ghost use Rattle.requests.specs.Kinds.{reportLine, commandLine, isList, pointsLine, zonesLine, aloneLine, requestOf, otherAsks, Listed, Says};
 use falcon_core::calls::Answer;
 use falcon_failsafe::flight::Opening;
 use falcon_guidance::state::Point;
@@ -59,9 +59,7 @@ impl Kind {
 
     pub const COMMAND_FIELDS: usize = 4;
 
-    pub const TOTALS_FIELDS: usize = 1;
-
-    pub const SAVES_FIELDS: usize = 1;
+    pub const ALONE_FIELDS: usize = 1;
     // The fields before the points or zones of a line: the kind, and how many follow.
     pub const LIST_HEAD: usize = 2;
 }
@@ -269,24 +267,15 @@ fn zones_line(ns: &[u32]) -> Kind
     Kind::Other(OtherCall::Refused(Answer::WRONG_COUNT))
 }
 
-// A line of kind 7.
-fn totals_line(ns: &[u32]) -> Kind
-    ensures { λ r. ⌜ Says r (now (ns .entry)) (totalsLine (now (ns .entry))) ⌝ }
+// A line of a kind that has no further field.
+fn alone_line(ns: &[u32], call: OtherCall) -> Kind
+    requires { ⌜ Listed call (now ns) ⌝ }
+    ensures { λ r. ⌜ Says r (now (ns .entry)) (aloneLine (now (ns .entry)) (otherAsks (now (ns .entry)) call)) ⌝ }
 {
-    if ns.len() != Kind::TOTALS_FIELDS {
+    if ns.len() != Kind::ALONE_FIELDS {
         return Kind::Other(OtherCall::Refused(Answer::WRONG_COUNT));
     }
-    Kind::Other(OtherCall::Totals)
-}
-
-// A line of kind 8.
-fn saves_line(ns: &[u32]) -> Kind
-    ensures { λ r. ⌜ Says r (now (ns .entry)) (savesLine (now (ns .entry))) ⌝ }
-{
-    if ns.len() != Kind::SAVES_FIELDS {
-        return Kind::Other(OtherCall::Refused(Answer::WRONG_COUNT));
-    }
-    Kind::Other(OtherCall::Saves)
+    Kind::Other(call)
 }
 
 // What the numbers of a line ask, by its kind.
@@ -314,10 +303,10 @@ pub(crate) fn kind_of(ns: &[u32]) -> Kind
         return zones_line(ns);
     }
     if kind == Kind::TOTALS {
-        return totals_line(ns);
+        return alone_line(ns, OtherCall::Totals);
     }
     if kind == Kind::SAVES {
-        return saves_line(ns);
+        return alone_line(ns, OtherCall::Saves);
     }
     Kind::Other(OtherCall::Refused(Answer::UNKNOWN_KIND))
 }

@@ -9,9 +9,11 @@ ghost use Rattle.sheet.specs.Many.{fitting};
 use columns::field::FIELD;
 use columns::field::FieldRead;
 use columns::field::read_field_of;
+use columns::field::write_numbers;
 use falcon_core::supervisor::Supervisor;
 use falcon_failsafe::flight::Opening;
 use falcon_guidance::state::Point;
+use falcon_record::save;
 use libc::STDIN_FILENO;
 use libc::STDOUT_FILENO;
 use sheet::entry::answer;
@@ -98,14 +100,9 @@ fn short_buffer() {
     print_answer(Supervisor::new(), b"12", &mut out);
 }
 
-// A line of kind 7: a buffer of 208 bytes stays as it was, of 209 a refused answer takes 110, and of 212 an accepted one takes 209.
-fn totals_buffers() {
-    let line = b"          7";
-    let mut short = [b'?'; 208];
-    print_answer(Supervisor::new(), line, &mut short);
-    let mut refused = [b'?'; 209];
-    print_answer(Supervisor::new(), line, &mut refused);
-    let opened = Supervisor::new().opening(Opening {
+// A state with an opening.
+fn opened() -> Supervisor {
+    let answered = Supervisor::new().opening(Opening {
         home: Point::origin(),
         fence_radius: 100.0,
         cruise_alt: 10.0,
@@ -114,8 +111,51 @@ fn totals_buffers() {
         passed: 0,
         calibration_configured: false,
     });
+    answered.supervisor
+}
+
+// A line of kind 7: a buffer of 208 bytes stays as it was, of 209 a refused answer takes 110, and of 212 an accepted one takes 209.
+fn totals_buffers() {
+    let line = b"          7";
+    let mut short = [b'?'; 208];
+    print_answer(Supervisor::new(), line, &mut short);
+    let mut refused = [b'?'; 209];
+    print_answer(Supervisor::new(), line, &mut refused);
     let mut accepted = [b'?'; 212];
-    print_answer(opened.supervisor, line, &mut accepted);
+    print_answer(opened(), line, &mut accepted);
+}
+
+// A line of kind 8: buffers of 110 and 1,869 bytes stay as they were, of 1,870 a refused answer takes 110, and of 1,873 an accepted one takes 1,595.
+fn record_buffers() {
+    let line = b"          8";
+    let mut ordinary = [b'?'; 110];
+    print_answer(Supervisor::new(), line, &mut ordinary);
+    let mut short = [b'?'; 1869];
+    print_answer(Supervisor::new(), line, &mut short);
+    let mut refused = [b'?'; 1870];
+    print_answer(Supervisor::new(), line, &mut refused);
+    let mut accepted = [b'?'; 1873];
+    print_answer(opened(), line, &mut accepted);
+}
+
+// Saves a state by values, and prints the refusal and the whole array.
+fn print_saved(s: Supervisor, numbers: &mut [u32], out: &mut [u8]) {
+    let saved = save(s, numbers);
+    io::print_decimal(STDOUT_FILENO, saved.answer.refusal as u64);
+    io::write_all(STDOUT_FILENO, b"\n");
+    write_numbers(out, numbers);
+    io::write_all(STDOUT_FILENO, out);
+    io::write_all(STDOUT_FILENO, b"\n");
+}
+
+// The state by values: an array of 159 places stays as it was, of 161 the columns take 135.
+fn record_arrays() {
+    let mut short = [7u32; 159];
+    let mut fields = [b'?'; 1749];
+    print_saved(opened(), &mut short, &mut fields);
+    let mut long = [7u32; 161];
+    let mut more = [b'?'; 1771];
+    print_saved(opened(), &mut long, &mut more);
 }
 
 fn main() {
@@ -124,5 +164,7 @@ fn main() {
     let mut out = buffer();
     short_buffer();
     totals_buffers();
+    record_buffers();
+    record_arrays();
     replay_all(&mut head, &mut sheet, &mut out);
 }

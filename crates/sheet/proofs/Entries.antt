@@ -21,12 +21,13 @@ use Rattle.falcon_core.proofs.Numbers.{numbers-count}
 use Rattle.requests.specs.declared.kinds.FlightCall.{FlightCall}
 use Rattle.requests.specs.declared.kinds.FlightCall.the-variants.{Ticks, Reports, Commands}
 use Rattle.requests.specs.Kinds.{flightAsks}
-use Rattle.requests.specs.ByLine.{totalsAnswer, replyNumbers}
-use Rattle.falcon_core.specs.declared.calls.Output.the-variants.{Totals}
+use Rattle.requests.specs.ByLine.{extraOf, replyNumbers}
 use Rattle.falcon_totals.specs.declared.DayTotals.{DayTotals}
-use Rattle.falcon_totals.specs.Totals.{totalsCount, totalsNumbers}
 use Rattle.columns.specs.Field.{put}
-use Rattle.requests.proofs.Buffer.{reply-ten, reply-totals}
+use Rattle.columns.specs.Line.{putOver}
+use Rattle.columns.proofs.Writing.{put-none, put-room}
+use Rattle.falcon_core.specs.declared.calls.Output.{Output}
+use Rattle.requests.proofs.Buffer.{reply-ten}
 use Rattle.sheet.specs.declared.entry.FlightReplied.{FlightReplied}
 use Rattle.sheet.specs.declared.entry.LineAnswered.{LineAnswered}
 use Rattle.sheet.specs.Entry.{lineAnswered, Replied, FlightLeft}
@@ -43,38 +44,40 @@ front-ten a ns d e =
     ∙ ap (λ (n : ℕ). take n (numbersOf a ++ d)) (sym (numbers-count a))
     ∙ take-append-seam (numbersOf a) d
 
-front-long : (a : Answer) (ns d : List ℕ) → ns ≡ numbersOf a ++ d → answerFields ≤ length ns
-front-long a ns d e = omega (arith, ap length e, length-append (numbersOf a) d, numbers-count a)
+-- what an answer tells, put behind its ten numbers: nothing, or these numbers, so many
+module _ (s : Supervisor) (o k : Output) (e : o ≡ k) (ns : List ℕ) where
+  pub told-none : extraOf s k ≡ [] → (answerFields ≡ answerFields + length (extraOf s o)) × (ns ≡ put ns answerFields (extraOf s o))
+  told-none h = rw (e, h) (refl, sym (put-none ns answerFields))
 
--- an answer without the totals
-pub replied-ten : (a : Answered) (ns d : List ℕ) → (a .answer .output ≡ Totals → ⊥) → ns ≡ numbersOf (a .answer) ++ d → Replied a (a .supervisor) ns answerFields
-replied-ten a ns d o e =
-    record {
-      state = refl;
-      numbers = front-ten (a .answer) ns d e ∙ reply-ten a o;
-      among = front-long (a .answer) ns d e;
-    }
+  pub told-put :
+      (ms part : List ℕ) (n : ℕ) →
+      part ≡ extraOf s k →
+      length (extraOf s k) ≡ n →
+      answerFields + n ≤ length ns →
+      ms ≡ putOver answerFields part ns →
+      (answerFields + n ≡ answerFields + length (extraOf s o)) × (ms ≡ put ns answerFields (extraOf s o))
+  told-put ms part n is wide room q =
+      rw e (
+        ap (λ (m : ℕ). answerFields + m) (sym wide),
+        q ∙ ap (λ (l : List ℕ). putOver answerFields l ns) is ∙ sym (put-room (extraOf s k) ns answerFields (omega (arith, wide, room))),
+      )
 
--- an answer with the totals behind its ten numbers
-totals-count : (t : DayTotals) → length (totalsNumbers t) ≡ totalsCount
-unfolding totalsNumbers
-totals-count t = refl
-
-pub replied-totals :
-    (a : Answered) (ns ms d : List ℕ) →
-    a .answer .output ≡ Totals →
+-- an answer with what it tells behind its ten numbers
+pub replied-told :
+    (a : Answered) (ns ms d : List ℕ) (n : ℕ) →
     ns ≡ numbersOf (a .answer) ++ d →
-    ms ≡ put ns answerFields (totalsNumbers (a .supervisor .totals)) →
-    Replied a (a .supervisor) ms totalsAnswer
-unfolding put
-replied-totals a ns ms d o e q =
-    let t : List ℕ = totalsNumbers (a .supervisor .totals) in
+    ms ≡ put ns answerFields (extraOf (a .supervisor) (a .answer .output)) →
+    n ≡ answerFields + length (extraOf (a .supervisor) (a .answer .output)) →
+    Replied a (a .supervisor) ms n
+unfolding put replyNumbers
+replied-told a ns ms d n e q count =
+    let t : List ℕ = extraOf (a .supervisor) (a .answer .output) in
     let rest : List ℕ = drop (answerFields + length t) ns in
     let is : ms ≡ (numbersOf (a .answer) ++ t) ++ rest = q ∙ ap (λ (l : List ℕ). l ++ (t ++ rest)) (front-ten (a .answer) ns d e) ∙ sym (append-assoc (numbersOf (a .answer)) t rest) in
-    let long : length (numbersOf (a .answer) ++ t) ≡ totalsAnswer = omega (arith, length-append (numbersOf (a .answer)) t, numbers-count (a .answer), totals-count (a .supervisor .totals)) in
+    let long : length (numbersOf (a .answer) ++ t) ≡ n = omega (arith, length-append (numbersOf (a .answer)) t, numbers-count (a .answer)) in
     record {
       state = refl;
-      numbers = ap (take totalsAnswer) is ∙ ap (λ (n : ℕ). take n ((numbersOf (a .answer) ++ t) ++ rest)) (sym long) ∙ take-append-seam (numbersOf (a .answer) ++ t) rest ∙ reply-totals a o;
+      numbers = ap (take n) is ∙ ap (λ (m : ℕ). take m ((numbersOf (a .answer) ++ t) ++ rest)) (sym long) ∙ take-append-seam (numbersOf (a .answer) ++ t) rest;
       among = omega (arith, ap (λ (l : List ℕ). length l) is, length-append (numbersOf (a .answer) ++ t) rest, long);
     }
 
@@ -107,16 +110,16 @@ pub command-legs :
 unfolding flightStepOf flightAfter outputOf
 command-legs f opened due l ev level low = refl
 
--- no answer of theirs has the totals
-flight-ten : (f : FlightSupervisor) (opened due : Bool) (l : Legs) (call : FlightCall) → flightStepOf f opened due l (flightAsks call) .answer .output ≡ Totals → ⊥
-unfolding flightStepOf flightAcceptedOf flightRefusedOf answerOf outputOf
-flight-ten f opened due l call = go (eqb (sequenceRefusal opened due (isReport (flightAsks call))) 0) call
+-- no answer of theirs tells anything of the state
+flight-ten : (s : Supervisor) (f : FlightSupervisor) (opened due : Bool) (l : Legs) (call : FlightCall) → extraOf s (flightStepOf f opened due l (flightAsks call) .answer .output) ≡ []
+unfolding flightStepOf flightAcceptedOf flightRefusedOf answerOf outputOf extraOf
+flight-ten s f opened due l call = go (eqb (sequenceRefusal opened due (isReport (flightAsks call))) 0) call
   where
-    go : (b : Bool) (k : FlightCall) → cond b (flightAcceptedOf (flightAfter f l (flightAsks k)) (reportDueAfter (outputOf f l (flightAsks k))) (outputOf f l (flightAsks k))) (flightRefusedOf f due (sequenceRefusal opened due (isReport (flightAsks call)))) .answer .output ≡ Totals → ⊥
-    go false k e = let z : _≡_ {A = ℕ} 0 1 = cc in absurd (omega arith)
-    go true (Ticks t) e = let z : _≡_ {A = ℕ} 0 1 = cc in absurd (omega arith)
-    go true (Reports failed) e = let z : _≡_ {A = ℕ} 0 1 = cc in absurd (omega arith)
-    go true (Commands ev level low) e = let z : _≡_ {A = ℕ} 0 1 = cc in absurd (omega arith)
+    go : (b : Bool) (k : FlightCall) → extraOf s (cond b (flightAcceptedOf (flightAfter f l (flightAsks k)) (reportDueAfter (outputOf f l (flightAsks k))) (outputOf f l (flightAsks k))) (flightRefusedOf f due (sequenceRefusal opened due (isReport (flightAsks call)))) .answer .output) ≡ []
+    go false k = refl
+    go true (Ticks t) = refl
+    go true (Reports failed) = refl
+    go true (Commands ev level low) = refl
 
 module _ (s : Supervisor) where
   abbrev parts : FlightCall → FlightAnswered
@@ -140,7 +143,7 @@ module _ (s : Supervisor) where
       λ i. stateOf (h .flight i) (s .waypoints) (s .opened) (h .due i) (h .totals i) in
       record {
         state = left ∙ ap (λ (x : Answered). x .supervisor) (call-beside call);
-        numbers = h .numbers ∙ reply-ten (besideOf s (parts call)) (flight-ten (s .flight) (s .opened) (s .«report_due») (legsIn s) call) ∙ ap replyNumbers (call-beside call);
+        numbers = h .numbers ∙ reply-ten (besideOf s (parts call)) (flight-ten _ (s .flight) (s .opened) (s .«report_due») (legsIn s) call) ∙ ap replyNumbers (call-beside call);
         among = room;
       }
 

@@ -5,12 +5,11 @@ ghost use Prim.Native.Nat.{_+_, _≤_};
 ghost use lib.ListN.{length, take, drop};
 ghost use lib.Ieee.{binary32, ofBits};
 ghost use Rattle.falcon_guidance.specs.State.{pointNumbers, zoneNumbers};
-ghost use Rattle.falcon_totals.specs.Totals.{totalsNumbers};
 ghost use Rattle.columns.specs.Field.{put};
 ghost use Rattle.falcon_core.specs.Calls.{answerFields, numbersOf, plans, points, zones, flightStepOf, stepOf};
 ghost use Rattle.requests.specs.Kinds.{answeredBy, listFields, listLine, listFloats, flightAsks, otherAsks, kindAsks, Listed, KindListed};
 ghost use Rattle.requests.specs.Parse.{mostFields, askedLine};
-ghost use Rattle.requests.specs.ByLine.{totalsAnswer, lineStep, bufferAfter};
+ghost use Rattle.requests.specs.ByLine.{extraOf, lineStep, bufferAfter};
 ghost use Rattle.sheet.specs.Entry.{lineAnswered, Replied, FlightLeft};
 use columns::field::write_numbers;
 use columns::line::put_numbers;
@@ -24,12 +23,12 @@ use falcon_core::calls::refused;
 use falcon_core::calls::totals_beside;
 use falcon_core::supervisor::Supervisor;
 use falcon_failsafe::flight::FlightSupervisor;
-use falcon_record::RECORD_FIELDS;
-use falcon_record::record_columns;
 use falcon_guidance::legs::legs;
 use falcon_guidance::state::Legs;
 use falcon_guidance::state::Point;
 use falcon_guidance::state::Zone;
+use falcon_record::RECORD_FIELDS;
+use falcon_record::record_columns;
 use falcon_totals::DayTotals;
 use relay_math::from_bits;
 use requests::kinds::FlightCall;
@@ -106,32 +105,25 @@ fn put_answer(numbers: &mut [u32], a: Answer)
     requires { ⌜ answerFields ≤ length (now numbers) ⌝ }
     ensures { λ _. ⌜ now (numbers .exit) ≡ numbersOf a ++ drop answerFields (now (numbers .entry)) ⌝ }
 {
-    let ten = a.numbers();
-    put_numbers(numbers, 0, &ten);
+    put_numbers(numbers, 0, &a.numbers());
 }
 
-// The totals, behind the ten numbers of an answer.
-fn put_totals(numbers: &mut [u32], t: DayTotals)
-    requires { ⌜ totalsAnswer ≤ length (now numbers) ⌝ }
-    ensures { λ _. ⌜ now (numbers .exit) ≡ put (now (numbers .entry)) answerFields (totalsNumbers t) ⌝ }
+// What an answer tells of the state, behind its ten numbers. Answers how many numbers it has in all.
+fn put_told(numbers: &mut [u32], s: Supervisor, output: Output) -> usize
+    requires { ⌜ length (now numbers) ≡ mostFields ⌝ }
+    ensures { λ r. ⌜ r ≡ answerFields + length (extraOf s output) ⌝ }
+    ensures { λ _. ⌜ now (numbers .exit) ≡ put (now (numbers .entry)) answerFields (extraOf s output) ⌝ }
 {
-    let nine = t.numbers();
-    put_numbers(numbers, Answer::FIELDS, &nine);
-}
-
-// The numbers behind the ten of an answer. Answers how many the answer has in all.
-fn put_extra(numbers: &mut [u32], s: Supervisor, output: Output) -> usize {
     match output {
         Output::Nothing => Answer::FIELDS,
         Output::Ticks(_) => Answer::FIELDS,
         Output::Totals => {
             let totals = s.totals;
-            put_totals(numbers, totals);
+            put_numbers(numbers, Answer::FIELDS, &totals.numbers());
             Answer::WITH_TOTALS
         }
         Output::Record => {
-            let columns = record_columns(s);
-            put_numbers(numbers, Answer::FIELDS, &columns);
+            put_numbers(numbers, Answer::FIELDS, &record_columns(s));
             Answer::FIELDS + RECORD_FIELDS
         }
     }
@@ -196,7 +188,7 @@ pub(crate) fn answer_other(s: Supervisor, call: OtherCall, numbers: &mut [u32]) 
     put_answer(numbers, a);
     let supervisor = answered.supervisor;
     let output = a.output;
-    let count = put_extra(numbers, supervisor, output);
+    let count = put_told(numbers, supervisor, output);
     LineReplied { supervisor, count }
 }
 
@@ -252,7 +244,7 @@ pub(crate) fn answer_numbers(
     answer_kind(s, kind, numbers)
 }
 
-// Answers a line. Under what its kind needs, 209 bytes for kind 7 and 110 for any other, nothing is written and the refusal is 9.
+// Answers a line. Under what its kind needs, 209 bytes for kind 7, 1,870 for kind 8 and 110 for any other, nothing is written and the refusal is 9.
 pub fn answer(s: Supervisor, line: &[u8], out: &mut [u8]) -> LineAnswered
     ensures answered { λ r. ⌜ r ≡ lineAnswered (lineStep s (now (line .entry)) (now (out .entry))) ⌝ }
     ensures buffer { λ _. ⌜ now (out .exit) ≡ bufferAfter s (now (line .entry)) (now (out .entry)) ⌝ }

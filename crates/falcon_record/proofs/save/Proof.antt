@@ -39,7 +39,7 @@ returns-2 c =
     let saved = c .before .before .before .before .before .before .before .before .save .ensures in (
       saved ∙ full-saved (a .s) (a .numbers .now) full,
       saved-accepted (a .s) (a .numbers .now) full _ (ap (λ (x : Answered). x .answer .refusal) (sym saved) ∙ c .before .before .before .before .before .before .if2 .taken)
-      (c .before .before .put-numbers .ensures ∙ ap (λ (l : List ℕ). putOver 0 l (a .numbers .now)) (c .before .before .before .before .record-columns .ensures)),
+          (c .before .before .put-numbers .ensures ∙ ap (λ (l : List ℕ). putOver 0 l (a .numbers .now)) (c .before .before .before .before .record-columns .ensures)),
     )
 
 returns-3 : tie.Need-returns-3

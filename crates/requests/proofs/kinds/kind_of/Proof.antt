@@ -50,16 +50,23 @@ returns-6 : tie.Need-returns-6
 unfolding requestOf
 returns-6 c = (c .zones-line .ensures .0 ∙ simp (eq-eqb _ _ (c .before .if6 .taken), ne-eqb _ _ (c .before .before .if5 .left), ne-eqb _ _ (c .before .before .before .if4 .left), ne-eqb _ _ (c .before .before .before .before .if3 .left), ne-eqb _ _ (c .before .before .before .before .before .if2 .left), ne-eqb _ _ (c .before .before .before .before .before .before .if1 .left)), c .zones-line .ensures .1)
 
-totals-line-requires : tie.Need-totals-line-requires
-totals-line-requires c κs = search needs
+alone-line-requires : tie.Need-alone-line-requires
+alone-line-requires c κs = tt
 
 returns-7 : tie.Need-returns-7
 unfolding requestOf
-returns-7 c = (c .totals-line .ensures .0 ∙ simp (eq-eqb _ _ (c .before .if7 .taken), ne-eqb _ _ (c .before .before .if6 .left), ne-eqb _ _ (c .before .before .before .if5 .left), ne-eqb _ _ (c .before .before .before .before .if4 .left), ne-eqb _ _ (c .before .before .before .before .before .if3 .left), ne-eqb _ _ (c .before .before .before .before .before .before .if2 .left), ne-eqb _ _ (c .before .before .before .before .before .before .before .if1 .left)), c .totals-line .ensures .1)
+returns-7 c = (c .alone-line .ensures .0 ∙ simp (eq-eqb _ _ (c .before .if7 .taken), ne-eqb _ _ (c .before .before .if6 .left), ne-eqb _ _ (c .before .before .before .if5 .left), ne-eqb _ _ (c .before .before .before .before .if4 .left), ne-eqb _ _ (c .before .before .before .before .before .if3 .left), ne-eqb _ _ (c .before .before .before .before .before .before .if2 .left), ne-eqb _ _ (c .before .before .before .before .before .before .before .if1 .left)), c .alone-line .ensures .1)
+
+alone-line-requires-2 : tie.Need-alone-line-requires-2
+alone-line-requires-2 c κs = tt
 
 returns-8 : tie.Need-returns-8
 unfolding requestOf
-returns-8 c = (simp (ne-eqb _ _ (c .if7 .left), ne-eqb _ _ (c .before .if6 .left), ne-eqb _ _ (c .before .before .if5 .left), ne-eqb _ _ (c .before .before .before .if4 .left), ne-eqb _ _ (c .before .before .before .before .if3 .left), ne-eqb _ _ (c .before .before .before .before .before .if2 .left), ne-eqb _ _ (c .before .before .before .before .before .before .if1 .left)), tt)
+returns-8 c = (c .alone-line2 .ensures .0 ∙ simp (eq-eqb _ _ (c .before .if8 .taken), ne-eqb _ _ (c .before .before .if7 .left), ne-eqb _ _ (c .before .before .before .if6 .left), ne-eqb _ _ (c .before .before .before .before .if5 .left), ne-eqb _ _ (c .before .before .before .before .before .if4 .left), ne-eqb _ _ (c .before .before .before .before .before .before .if3 .left), ne-eqb _ _ (c .before .before .before .before .before .before .before .if2 .left), ne-eqb _ _ (c .before .before .before .before .before .before .before .before .if1 .left)), c .alone-line2 .ensures .1)
+
+returns-9 : tie.Need-returns-9
+unfolding requestOf
+returns-9 c = (simp (ne-eqb _ _ (c .if8 .left), ne-eqb _ _ (c .before .if7 .left), ne-eqb _ _ (c .before .before .if6 .left), ne-eqb _ _ (c .before .before .before .if5 .left), ne-eqb _ _ (c .before .before .before .before .if4 .left), ne-eqb _ _ (c .before .before .before .before .before .if3 .left), ne-eqb _ _ (c .before .before .before .before .before .before .if2 .left), ne-eqb _ _ (c .before .before .before .before .before .before .before .if1 .left)), tt)
 
 pub kind-of-spec : {M : Type 1} → statement M
-kind-of-spec = tie.close (tie.spec shared-slice-read-kind opening-line-requires returns tick-line-requires returns-2 report-line-requires returns-3 command-line-requires returns-4 points-line-requires returns-5 zones-line-requires returns-6 totals-line-requires returns-7 returns-8)
+kind-of-spec = tie.close (tie.spec shared-slice-read-kind opening-line-requires returns tick-line-requires returns-2 report-line-requires returns-3 command-line-requires returns-4 points-line-requires returns-5 zones-line-requires returns-6 alone-line-requires returns-7 alone-line-requires-2 returns-8 returns-9)

@@ -37,8 +37,14 @@ zones-step-requires c κs =
 enum-told-3 : tie.Need-enum-told-3
 enum-told-3 c = search needs
 
+enum-told-4 : tie.Need-enum-told-4
+enum-told-4 c = search needs
+
 totals-requires : tie.Need-totals-requires
 totals-requires c κs = search needs
+
+save-requires : tie.Need-save-requires
+save-requires c κs = search needs
 
 returns : tie.Need-returns
 returns c = simp (c .refused .ensures, c .before .before .call .given .1)
@@ -55,6 +61,9 @@ returns-4 c = simp (c .zones-step .ensures, c .before .enum-told2 .given .1)
 returns-5 : tie.Need-returns-5
 returns-5 c = simp (c .totals .ensures, c .before .enum-told3 .given .1)
 
+returns-6 : tie.Need-returns-6
+returns-6 c = simp (c .save .ensures, c .before .enum-told4 .given .1)
+
 pub other-step-spec : {M : Type 1} → statement M
 other-step-spec =
     tie.close
@@ -69,8 +78,11 @@ other-step-spec =
     zones-step-requires
     enum-told-3
     totals-requires
+    enum-told-4
+    save-requires
     returns
     returns-2
     returns-3
     returns-4
-    returns-5)
+    returns-5
+    returns-6)

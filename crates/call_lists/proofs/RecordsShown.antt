@@ -1,0 +1,94 @@
+-- The columns of the state over every list of calls whose lent floats are f32 values.
+use Prim.Native.Nat.{ℕ, _<_, _^_}
+use mathlib.Core.List.{List, [], _∷_}
+use mathlib.Core.Option.{some}
+use mathlib.Core.Path.{_≡_, refl, sym, ap, _∙_, subst}
+use lib.Dec.{lit≤}
+use Rattle.columns.specs.Line.{InRange}
+use Rattle.falcon_totals.specs.declared.DayTotals.{DayTotals}
+use Rattle.falcon_totals.specs.Totals.{totalsNumbers}
+use Rattle.falcon_core.specs.declared.supervisor.Supervisor.{Supervisor}
+use Rattle.falcon_core.specs.declared.calls.Answered.{Answered}
+use Rattle.falcon_core.specs.declared.calls.Output.the-variants.{Record}
+use Rattle.falcon_core.specs.Calls.{plans, saves, answerOf, acceptedOf, stepOf, outputOf}
+use Rattle.falcon_core.proofs.Answers.{step-accepted, in-sequence, tells-state, told-output}
+use Rattle.falcon_core.proofs.Refused.{accepted-passed, told-keeps}
+use Rattle.falcon_core.proofs.Battery.{FromOpening, after-from-opening, unopened-from-opening}
+use Rattle.falcon_record.specs.Kept.{Kept, Ready}
+use Rattle.falcon_record.specs.Saved.{writtenForm, columnsOf}
+use Rattle.falcon_record.proofs.Back.{record-back, columns-same}
+use Rattle.falcon_record.proofs.Forms.{line-back, carries}
+use Rattle.falcon_record.proofs.Saving.{record-fits}
+use Rattle.falcon_record.proofs.Reached.{after-wind, unopened-wind, from-pack, totals-below}
+use Rattle.requests.specs.ByLine.{extraOf}
+use Rattle.call_lists.specs.Lists.{Call, Place, acceptedRequest, callStep, placeAfter, nextPlace, answersFrom, lentAfter, lentFrom, placeAt, start, EachLent}
+use Rattle.call_lists.specs.Records.{writtenBy, ReadBack, RecordBack, WrittenAlike}
+use Rattle.call_lists.proofs.CallSeen.{seen}
+use Rattle.call_lists.proofs.ToldSeen.{Told, told-seen}
+use Rattle.call_lists.proofs.PlaceHolds.{place-holding, start-holding}
+use Rattle.call_lists.proofs.EveryPlace.{every-place, sound-flight, fits-place}
+
+-- ---- what the columns rest on, at every place
+
+pub kept-place : (l : List Call) → EachLent l → Kept (placeAt l .supervisor)
+kept-place l e =
+    record {
+      fit = fits-place l e;
+      sound = sound-flight l;
+      pack = from-pack _ (every-place (λ (u : Supervisor). FromOpening (u .flight)) after-from-opening unopened-from-opening l);
+      wind-below = every-place (λ (u : Supervisor). u .flight .counts .«wind_count» < 2 ^ 32) after-wind unopened-wind l;
+      totals-below = subst (λ (t : DayTotals). InRange (totalsNumbers t)) (sym (place-holding start l start-holding .totals-are)) (totals-below (placeAt l .counted));
+    }
+
+-- ---- an accepted call for the state
+
+module _ (s : Supervisor) (c : Call) (e : acceptedRequest s c ≡ some (plans saves)) where
+  told : Told s saves (callStep s c)
+  told = told-seen s saves _ _ (seen s c) e
+
+  saved-ready : Ready s
+  saved-ready =
+      let q = in-sequence (s .opened) (s .«report_due») (accepted-passed s (plans saves) (told .fits) .in-sequence) in
+      record { opened = q .0; none-due = q .1 }
+
+  -- it keeps the state
+  saved-keeps : callStep s c .supervisor ≡ s
+  saved-keeps = ap (λ (a : Answered). a .supervisor) (told .is) ∙ told-keeps s saves Record tells-state
+
+  saved-output : callStep s c .answer .output ≡ Record
+  unfolding acceptedOf answerOf
+  saved-output =
+      ap (λ (a : Answered). a .answer .output) (told .is ∙ step-accepted s (plans saves) (told .fits)) ∙ told-output s saves Record tells-state
+
+  -- and writes its columns
+  pub saved-columns : writtenBy s c ≡ columnsOf s
+  unfolding extraOf
+  saved-columns = λ i. extraOf (saved-keeps i) (saved-output i)
+
+pub record-had-back : RecordBack
+unfolding columnsOf
+record-had-back here c e q =
+    let s = placeAt here .supervisor in
+    let k = kept-place here e in
+    subst (ReadBack s) (sym (saved-columns s c q))
+    (record { line = line-back writtenForm s _ k record-fits; state = record-back writtenForm s k (saved-ready s c q) (carries writtenForm s (lit≤ tt) k) })
+
+-- ---- equal columns
+
+-- from one state every list is answered alike
+answers-same : (l : List Call) (p q : Place) → p .supervisor ≡ q .supervisor → (answersFrom p l ≡ answersFrom q l) × (lentFrom p l ≡ lentFrom q l)
+unfolding answersFrom lentFrom nextPlace placeAfter
+answers-same [] p q e = (refl, refl)
+answers-same (c ∷ l) p q e =
+    let rest = answers-same l (nextPlace p c) (nextPlace q c) (λ i. callStep (e i) c .supervisor) in
+    ((λ i. callStep (e i) c ∷ rest .0 i), (λ i. lentAfter (e i) c ∷ rest .1 i))
+
+pub written-same : WrittenAlike
+unfolding nextPlace placeAfter columnsOf
+written-same here there c d e f p q same later =
+    let s = placeAt here .supervisor in
+    let u = placeAt there .supervisor in
+    let k = kept-place here e in
+    let m = kept-place there f in
+    let one : s ≡ u = columns-same writtenForm s u k m (saved-ready s c p) (saved-ready u d q) (carries writtenForm s (lit≤ tt) k) (carries writtenForm u (lit≤ tt) m) (sym (saved-columns s c p) ∙ same ∙ saved-columns u d q) in
+    answers-same later (nextPlace (placeAt here) c) (nextPlace (placeAt there) d) (saved-keeps s c p ∙ one ∙ sym (saved-keeps u d q))
