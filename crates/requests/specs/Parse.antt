@@ -19,10 +19,13 @@ unfoldable pub limitFields : FieldRead → ℕ
 limitFields (Number n) = lineFields
 limitFields Bad = lineFields
 
--- the most fields that a line of any kind may have, and an array for a line's numbers or its answer's has places for. U2: a line of kind 9 "may have 160
--- fields", though none is taken yet
+-- the most fields that a line of any kind may have
 abbrev pub mostFields : ℕ
-mostFields = recordRoom
+mostFields = lineFields
+
+-- the places of an array that takes a line's numbers and then its answer's: those of a record too
+abbrev pub numberPlaces : ℕ
+numberPlaces = recordRoom
 
 -- what a line says
 unfoldable pub readingLine : List ℕ → Reading

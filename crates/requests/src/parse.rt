@@ -5,7 +5,7 @@ ghost use lib.ListN.{length};
 ghost use Rattle.columns.specs.Field.{inRange, kindOf};
 ghost use Rattle.columns.specs.Line.{lengthOk};
 ghost use Rattle.requests.specs.Kinds.{Says};
-ghost use Rattle.requests.specs.Parse.{limitFields, mostFields, askedLine, numbersAfter};
+ghost use Rattle.requests.specs.Parse.{limitFields, mostFields, numberPlaces, askedLine, numbersAfter};
 use crate::kinds::Kind;
 use crate::kinds::OtherCall;
 use crate::kinds::kind_of;
@@ -18,7 +18,10 @@ use falcon_core::calls::Answer;
 use falcon_record::RECORD_ROOM;
 
 // The most fields of a line of any kind.
-pub const MOST_FIELDS: usize = RECORD_ROOM;
+pub const MOST_FIELDS: usize = LINE_FIELDS;
+
+// The places of an array that takes a line's numbers and then its answer's: those of a record too.
+pub const NUMBER_PLACES: usize = RECORD_ROOM;
 
 // The bytes that a line of every kind may have.
 const ORDINARY: usize = FIELD * LINE_FIELDS;
@@ -53,10 +56,10 @@ fn asked_into(line: &[u8], numbers: &mut [u32]) -> Kind
     kind_of(&numbers[..count])
 }
 
-// The same with an array that has a place for each number of any line.
-pub fn asked(line: &[u8], numbers: &mut [u32; MOST_FIELDS]) -> Kind
+// The same with an array that has a place for each number of any line, and of its answer.
+pub fn asked(line: &[u8], numbers: &mut [u32; NUMBER_PLACES]) -> Kind
     ensures { λ r. ⌜ Says r (now (numbers .exit)) (askedLine (now (line .entry))) ⌝ }
-    ensures { λ _. ⌜ length (now (numbers .exit)) ≡ mostFields ⌝ }
+    ensures { λ _. ⌜ length (now (numbers .exit)) ≡ numberPlaces ⌝ }
     ensures { λ _. ⌜ now (numbers .exit) ≡ numbersAfter (now (line .entry)) (now (numbers .entry)) ⌝ }
 {
     asked_into(line, numbers)

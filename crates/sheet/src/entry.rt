@@ -8,7 +8,7 @@ ghost use Rattle.falcon_guidance.specs.State.{pointNumbers, zoneNumbers};
 ghost use Rattle.columns.specs.Field.{put};
 ghost use Rattle.falcon_core.specs.Calls.{answerFields, numbersOf, plans, points, zones, flightStepOf, stepOf};
 ghost use Rattle.requests.specs.Kinds.{answeredBy, listFields, listLine, listFloats, flightAsks, otherAsks, kindAsks, Listed, KindListed};
-ghost use Rattle.requests.specs.Parse.{mostFields, askedLine};
+ghost use Rattle.requests.specs.Parse.{numberPlaces, askedLine};
 ghost use Rattle.requests.specs.ByLine.{extraOf, lineStep, bufferAfter};
 ghost use Rattle.sheet.specs.Entry.{lineAnswered, Replied, FlightLeft};
 use columns::field::write_numbers;
@@ -35,7 +35,7 @@ use requests::kinds::FlightCall;
 use requests::kinds::Kind;
 use requests::kinds::OtherCall;
 use requests::need::is_short;
-use requests::parse::MOST_FIELDS;
+use requests::parse::NUMBER_PLACES;
 use requests::parse::asked;
 
 // The state after a line, and the refusal that its answer gives.
@@ -82,20 +82,20 @@ fn list_floats(numbers: &[u32], width: usize, floats: &mut [f32]) -> usize
 
 // The points of a line, whose numbers are the first of these.
 fn points_step(s: Supervisor, numbers: &[u32]) -> Answered
-    requires { ⌜ (listFields pointNumbers (now numbers) ≤ length (now numbers)) × (length (now numbers) ≤ mostFields) ⌝ }
+    requires { ⌜ (listFields pointNumbers (now numbers) ≤ length (now numbers)) × (length (now numbers) ≤ numberPlaces) ⌝ }
     ensures { λ r. ⌜ r ≡ stepOf s (plans (points (listFloats (listLine pointNumbers (now (numbers .entry)))))) ⌝ }
 {
-    let mut floats = [0.0f32; MOST_FIELDS];
+    let mut floats = [0.0f32; NUMBER_PLACES];
     let lent = list_floats(numbers, Point::NUMBERS, &mut floats);
     s.set_mission_waypoints(&floats[..lent])
 }
 
 // The zones of a line, whose numbers are the first of these.
 fn zones_step(s: Supervisor, numbers: &[u32]) -> Answered
-    requires { ⌜ (listFields zoneNumbers (now numbers) ≤ length (now numbers)) × (length (now numbers) ≤ mostFields) ⌝ }
+    requires { ⌜ (listFields zoneNumbers (now numbers) ≤ length (now numbers)) × (length (now numbers) ≤ numberPlaces) ⌝ }
     ensures { λ r. ⌜ r ≡ stepOf s (plans (zones (listFloats (listLine zoneNumbers (now (numbers .entry)))))) ⌝ }
 {
-    let mut floats = [0.0f32; MOST_FIELDS];
+    let mut floats = [0.0f32; NUMBER_PLACES];
     let lent = list_floats(numbers, Zone::NUMBERS, &mut floats);
     s.set_keepout_zones(&floats[..lent])
 }
@@ -110,7 +110,7 @@ fn put_answer(numbers: &mut [u32], a: Answer)
 
 // What an answer tells of the state, behind its ten numbers. Answers how many numbers it has in all.
 fn put_told(numbers: &mut [u32], s: Supervisor, output: Output) -> usize
-    requires { ⌜ length (now numbers) ≡ mostFields ⌝ }
+    requires { ⌜ length (now numbers) ≡ numberPlaces ⌝ }
     ensures { λ r. ⌜ r ≡ answerFields + length (extraOf s output) ⌝ }
     ensures { λ _. ⌜ now (numbers .exit) ≡ put (now (numbers .entry)) answerFields (extraOf s output) ⌝ }
 {
@@ -165,7 +165,7 @@ pub(crate) fn answer_flight(
 
 // What any other line is answered with; its numbers are the first of these.
 fn other_step(s: Supervisor, call: OtherCall, numbers: &[u32]) -> Answered
-    requires { ⌜ Listed call (now numbers) × (length (now numbers) ≡ mostFields) ⌝ }
+    requires { ⌜ Listed call (now numbers) × (length (now numbers) ≡ numberPlaces) ⌝ }
     ensures { λ r. ⌜ r ≡ answeredBy s (otherAsks (now (numbers .entry)) call) ⌝ }
 {
     match call {
@@ -180,7 +180,7 @@ fn other_step(s: Supervisor, call: OtherCall, numbers: &[u32]) -> Answered
 
 // Any other line. The array has the line's numbers, and takes the answer's.
 pub(crate) fn answer_other(s: Supervisor, call: OtherCall, numbers: &mut [u32]) -> LineReplied
-    requires { ⌜ Listed call (now numbers) × (length (now numbers) ≡ mostFields) ⌝ }
+    requires { ⌜ Listed call (now numbers) × (length (now numbers) ≡ numberPlaces) ⌝ }
     ensures { λ r. ⌜ Replied (answeredBy s (otherAsks (now (numbers .entry)) call)) (r .supervisor) (now (numbers .exit)) (r .count) ⌝ }
 {
     let answered = other_step(s, call, numbers);
@@ -194,7 +194,7 @@ pub(crate) fn answer_other(s: Supervisor, call: OtherCall, numbers: &mut [u32]) 
 
 // A tick, a report or a command, from the whole state.
 fn answer_flight_whole(s: Supervisor, call: FlightCall, numbers: &mut [u32]) -> LineReplied
-    requires { ⌜ length (now numbers) ≡ mostFields ⌝ }
+    requires { ⌜ length (now numbers) ≡ numberPlaces ⌝ }
     ensures { λ r. ⌜ Replied (stepOf s (flightAsks call)) (r .supervisor) (now (numbers .exit)) (r .count) ⌝ }
 {
     let config = s.flight.config;
@@ -223,7 +223,7 @@ fn answer_flight_whole(s: Supervisor, call: FlightCall, numbers: &mut [u32]) -> 
 
 // Answers what a line asks. The array has the line's numbers, and takes the answer's.
 fn answer_kind(s: Supervisor, kind: Kind, numbers: &mut [u32]) -> LineReplied
-    requires { ⌜ KindListed kind (now numbers) × (length (now numbers) ≡ mostFields) ⌝ }
+    requires { ⌜ KindListed kind (now numbers) × (length (now numbers) ≡ numberPlaces) ⌝ }
     ensures { λ r. ⌜ Replied (answeredBy s (kindAsks (now (numbers .entry)) kind)) (r .supervisor) (now (numbers .exit)) (r .count) ⌝ }
 {
     match kind {
@@ -236,7 +236,7 @@ fn answer_kind(s: Supervisor, kind: Kind, numbers: &mut [u32]) -> LineReplied
 pub(crate) fn answer_numbers(
     s: Supervisor,
     line: &[u8],
-    numbers: &mut [u32; MOST_FIELDS],
+    numbers: &mut [u32; NUMBER_PLACES],
 ) -> LineReplied
     ensures { λ r. ⌜ Replied (answeredBy s (askedLine (now (line .entry)))) (r .supervisor) (now (numbers .exit)) (r .count) ⌝ }
 {
@@ -256,7 +256,7 @@ pub fn answer(s: Supervisor, line: &[u8], out: &mut [u8]) -> LineAnswered
             refusal: Answer::SHORT_BUFFER,
         };
     }
-    let mut numbers = [0u32; MOST_FIELDS];
+    let mut numbers = [0u32; NUMBER_PLACES];
     let replied = answer_numbers(s, line, &mut numbers);
     let count = replied.count;
     write_numbers(out, &numbers[..count]);

@@ -22,7 +22,7 @@ use falcon_guidance::legs::legs_from;
 use falcon_guidance::legs::next_place;
 use requests::kinds::Kind;
 use requests::need::lacks_room;
-use requests::parse::MOST_FIELDS;
+use requests::parse::NUMBER_PLACES;
 use requests::parse::asked;
 
 // What was answered: the state after it, the bytes read and written, and the lines.
@@ -65,7 +65,7 @@ pub fn answer_lines(s: Supervisor, input: &[u8], out: &mut [u8]) -> Progress
     ensures buffer { λ _. ⌜ now (out .exit) ≡ answersOver s (fitting s (whole (now (input .entry))) (now (out .entry))) (now (out .entry)) ⌝ }
     ensures unchanged { λ _. ⌜ now (input .exit) ≡ now (input .entry) ⌝ }
 {
-    let mut numbers = [0u32; MOST_FIELDS];
+    let mut numbers = [0u32; NUMBER_PLACES];
     // The state by its parts: ticks, reports and commands then copy no waypoints (docs/SPEED.md).
     let mut flight = s.flight;
     let mut waypoints = s.waypoints;
@@ -164,7 +164,7 @@ pub fn answer_last(s: Supervisor, input: &[u8], out: &mut [u8]) -> Progress
     if lacks_room(input, out.len()) {
         return none_answered(s);
     }
-    let mut numbers = [0u32; MOST_FIELDS];
+    let mut numbers = [0u32; NUMBER_PLACES];
     let replied = answer_numbers(s, input, &mut numbers);
     let count = replied.count;
     let written = write_reply(&numbers[..count], out, 0);

@@ -13,7 +13,7 @@ use Rattle.falcon_core.specs.Calls.{answerFields, flightStepOf}
 use Rattle.columns.specs.Field.{put}
 use Rattle.requests.specs.declared.kinds.Kind.{Kind}
 use Rattle.requests.specs.Kinds.{answeredBy, flightAsks, kindAsks, KindListed}
-use Rattle.requests.specs.Parse.{mostFields, askedLine}
+use Rattle.requests.specs.Parse.{numberPlaces, askedLine}
 use Rattle.requests.specs.ByLine.{needOf}
 use Rattle.sheet.specs.Entry.{Replied, FlightLeft}
 use Rattle.sheet.specs.Lines.{newline, whole}
@@ -123,7 +123,7 @@ replied-is : (c : tie.At-match-came Inv-loop μ-loop) →
     let m = c .match in
     let line = take (l .end - l .used) (drop (l .used) (c .before .before .before .before .before .before .before .before .before .before .before .before .args .input .now)) in
     Replied (answeredBy (stateOf (l .flight) (l .waypoints) (l .opened) (l .report-due) (l .totals)) (askedLine line)) (stateOf (m .flight) (m .waypoints) (m .opened) (m .report-due) (m .totals)) (m .numbers) (m .count)
-    × ((length (m .numbers) ≡ mostFields) × (length (m .waypoints) ≡ maxWaypoints))
+    × ((length (m .numbers) ≡ numberPlaces) × (length (m .waypoints) ≡ maxWaypoints))
 replied-is c =
     let l = c .before .before .before .before .before .loop in
     let m = c .match in
@@ -140,7 +140,7 @@ replied-is c =
           let legs = legs-are (l .waypoints) long (l .flight .config) (l .flight .mission) (w .5 .result) (w .6 .result) (w .9 .result) (w .5 .ensures) (w .6 .ensures) (w .9 .ensures) in
           let left = subst (λ (x : Legs). of (flightStepOf (l .flight) (l .opened) (l .report-due) x (flightAsks call))) legs (told .ensures) in
           let is = sym (ap (kindAsks (asked .last .1 .0)) (w .1 .given .1)) ∙ asked .ensures .0 .0 in
-          let wide : length ns ≡ mostFields = told .kept .1 .1 .1 .1 .1 .1 .0 ∙ asked .ensures .1 .0 in (
+          let wide : length ns ≡ numberPlaces = told .kept .1 .1 .1 .1 .1 .1 .0 ∙ asked .ensures .1 .0 in (
             replied-as _ (answeredBy s (askedLine line)) _ _ ns (m .numbers) answerFields (m .count) (replied-flight s call (told .result) ns left (omega (arith, wide))) (ap (answeredBy s) is)
                 (λ i. stateOf (w .16 i) (w .17 i) (w .18 i) (w .19 i) (w .20 i)) (w .15) (w .21),
             (ap (λ (x : List ℕ). length x) (w .15) ∙ wide, ap (λ (x : List Point). length x) (w .17) ∙ long),
@@ -149,7 +149,7 @@ replied-is c =
           let other = w .4 in
           let ns = other .last .1 .1 .0 in
           let is = sym (ap (kindAsks (asked .last .1 .0)) (w .1 .given .1)) ∙ asked .ensures .0 .0 in
-          let wide : length ns ≡ mostFields = other .kept .1 .1 .0 ∙ asked .ensures .1 .0 in (
+          let wide : length ns ≡ numberPlaces = other .kept .1 .1 .0 ∙ asked .ensures .1 .0 in (
             replied-as _ (answeredBy s (askedLine line)) _ _ ns (m .numbers) (other .result .count) (m .count) (other .ensures) (ap (answeredBy s) is)
                 (λ i. stateOf (w .11 i) (w .12 i) (w .13 i) (w .14 i) (w .15 i)) (w .10) (w .16),
             (ap (λ (x : List ℕ). length x) (w .10) ∙ wide, ap (λ (x : List Point). length x) (w .12) ∙ (simp length-map at (other .ok .1 .1 .0 .1 .1 .1 .0 .1 .0 .1))),
