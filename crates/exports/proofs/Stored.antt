@@ -9,7 +9,8 @@ use Rattle.relay_batt.specs.declared.config.BattConfig.{BattConfig}
 use Rattle.relay_batt.specs.declared.estimator.BattState.{BattState}
 use Rattle.relay_batt.specs.declared.estimator.BatteryEstimator.{BatteryEstimator}
 use Rattle.relay_batt.specs.declared.battery.Battery.{Battery}
-use Rattle.exports.specs.Batt.{configNumbers, estimatorNumbers, stateNumbers, silenceNumbers, batteryNumbers, size, shortNumber, storedOf}
+use Rattle.relay_batt.specs.Numbers.{estimatorNumbers, stateNumbers, silenceNumbers, batteryNumbers}
+use Rattle.exports.specs.Batt.{configNumbers, packedNumbers, size, shortNumber, storedOf}
 use Rattle.exports.proofs.Sets.{sets-behind, put-run}
 
 config-end : (c : BattConfig) → 0 + length (configNumbers c) ≡ 8
@@ -24,8 +25,8 @@ state-end : (s : BattState) → 17 + length (stateNumbers s) ≡ 26
 unfolding stateNumbers
 state-end s = refl
 
-stored : (l : List ℕ) (b : Battery) → sets (sets (sets (sets l 0 (configNumbers (b .est .cfg))) 8 (estimatorNumbers (b .est))) 17 (stateNumbers (b .state))) 26 (silenceNumbers b) ≡ sets l 0 (batteryNumbers b)
-unfolding batteryNumbers
+stored : (l : List ℕ) (b : Battery) → sets (sets (sets (sets l 0 (configNumbers (b .est .cfg))) 8 (estimatorNumbers (b .est))) 17 (stateNumbers (b .state))) 26 (silenceNumbers b) ≡ sets l 0 (packedNumbers b)
+unfolding packedNumbers batteryNumbers
 stored l b =
     let c = configNumbers (b .est .cfg) in
     let e = estimatorNumbers (b .est) in
@@ -35,13 +36,13 @@ stored l b =
     ∙ sets-behind l 0 8 c (e ++ (s ++ silenceNumbers b)) (config-end (b .est .cfg))
 
 -- four runs of the parts
-pub put-parts : (l : List ℕ) (b : Battery) {l1 l2 l3 l4 p1 p2 p3 p4 : List ℕ} → p1 ≡ configNumbers (b .est .cfg) → l1 ≡ sets l 0 p1 → p2 ≡ estimatorNumbers (b .est) → l2 ≡ sets l1 8 p2 → p3 ≡ stateNumbers (b .state) → l3 ≡ sets l2 17 p3 → p4 ≡ silenceNumbers b → l4 ≡ sets l3 26 p4 → l4 ≡ sets l 0 (batteryNumbers b)
+pub put-parts : (l : List ℕ) (b : Battery) {l1 l2 l3 l4 p1 p2 p3 p4 : List ℕ} → p1 ≡ configNumbers (b .est .cfg) → l1 ≡ sets l 0 p1 → p2 ≡ estimatorNumbers (b .est) → l2 ≡ sets l1 8 p2 → p3 ≡ stateNumbers (b .state) → l3 ≡ sets l2 17 p3 → p4 ≡ silenceNumbers b → l4 ≡ sets l3 26 p4 → l4 ≡ sets l 0 (packedNumbers b)
 put-parts l b q1 e1 q2 e2 q3 e3 q4 e4 = put-run 26 e4 (put-run 17 e3 (put-run 8 e2 (put-run 0 e1 refl q1) q2) q3) q4 ∙ stored l b
 
 -- there is room for the battery
-pub put-stored : (l : List ℕ) (b : Battery) {m : List ℕ} {a : Battery} → size ≤ length l → m ≡ sets l 0 (batteryNumbers a) → a ≡ b → m ≡ storedOf l b
+pub put-stored : (l : List ℕ) (b : Battery) {m : List ℕ} {a : Battery} → size ≤ length l → m ≡ sets l 0 (packedNumbers a) → a ≡ b → m ≡ storedOf l b
 unfolding storedOf
-put-stored l b h e q = rw (le-ltb (length l) size h) (e ∙ ap (λ (x : Battery). sets l 0 (batteryNumbers x)) q)
+put-stored l b h e q = rw (le-ltb (length l) size h) (e ∙ ap (λ (x : Battery). sets l 0 (packedNumbers x)) q)
 
 -- and the answer is 0
 pub room : (l : List ℕ) → size ≤ length l → 0 ≡ shortNumber l

@@ -8,21 +8,17 @@ use lib.Seq.{sets}
 use lib.Ieee.{Float, binary32, ofBits, toBits}
 use Rattle.relay_batt.specs.declared.config.BattConfig.{BattConfig}
 use Rattle.relay_batt.specs.declared.latch.TripLatch.{TripLatch}
-use Rattle.relay_batt.specs.declared.estimator.BattState.{BattState}
-use Rattle.relay_batt.specs.declared.estimator.BatteryEstimator.{BatteryEstimator}
 use Rattle.relay_batt.specs.declared.battery.Battery.{Battery}
 use Rattle.relay_batt.specs.declared.battery.Reading.{Reading}
 use Rattle.relay_batt.specs.declared.battery.Reading.the-variants.{Nothing, Volts, VoltsAmps}
 use Rattle.relay_batt.specs.Battery.{openedOf, updateOf}
-use Rattle.exports.specs.Numbers.{flag, floatAt, flagAt}
+use Rattle.relay_math.specs.Small.{bits}
+use Rattle.relay_batt.specs.Numbers.{batteryNumbers, batteryBy}
+use Rattle.exports.specs.Numbers.{floatAt, flagAt}
 
 -- how many numbers a battery is
 abbrev pub size : ℕ
 size = 29
-
--- the bits of an f32
-abbrev pub bits : Float → ℕ
-bits x = toBits binary32 x
 
 -- ---- from numbers
 
@@ -43,36 +39,13 @@ configFrom ns = record {
 unfoldable pub latchFrom : List ℕ → ℕ → TripLatch
 latchFrom ns i = record { «below_s» = floatAt ns i; latched = flagAt ns (i + 1) }
 
--- the estimator, its pack and numbers 8 to 16
-unfoldable pub estimatorFrom : List ℕ → BatteryEstimator
-estimatorFrom ns = record {
-  cfg = configFrom ns;
-  «consumed_mah» = floatAt ns 8;
-  «r_est» = floatAt ns 9;
-  «prev_v» = floatAt ns 10;
-  «prev_i» = floatAt ns 11;
-  «have_prev» = flagAt ns 12;
-  low = latchFrom ns 13;
-  critical = latchFrom ns 15;
-}
+-- the numbers behind the pack's
+abbrev pub behindPack : List ℕ → ℕ → ℕ
+behindPack ns k = getD ns (8 + k) 0
 
--- what is shown, numbers 17 to 25
-unfoldable pub stateFrom : List ℕ → BattState
-stateFrom ns = record {
-  volts = floatAt ns 17;
-  «rest_volts» = floatAt ns 18;
-  «current_a» = floatAt ns 19;
-  «consumed_mah» = floatAt ns 20;
-  soc = floatAt ns 21;
-  «r_est» = floatAt ns 22;
-  low = flagAt ns 23;
-  critical = flagAt ns 24;
-  degraded = flagAt ns 25;
-}
-
--- the battery, with the silence and its flags in numbers 26 to 28
+-- the battery, its pack and numbers 8 to 28
 unfoldable pub batteryFrom : List ℕ → Battery
-batteryFrom ns = record { est = estimatorFrom ns; state = stateFrom ns; «missing_s» = floatAt ns 26; present = flagAt ns 27; seen = flagAt ns 28 }
+batteryFrom ns = batteryBy (configFrom ns) (behindPack ns)
 
 -- a reading by its kind: 0 nothing, 1 volts, any other volts and amps
 unfoldable pub readingFrom : ℕ → ℕ → ℕ → Reading
@@ -104,41 +77,9 @@ configNumbers c =
     ∷ bits (c .«debounce_s»)
     ∷ []
 
--- the estimator's nine
-unfoldable pub estimatorNumbers : BatteryEstimator → List ℕ
-estimatorNumbers e =
-    bits (e .«consumed_mah»)
-    ∷ bits (e .«r_est»)
-    ∷ bits (e .«prev_v»)
-    ∷ bits (e .«prev_i»)
-    ∷ flag (e .«have_prev»)
-    ∷ bits (e .low .«below_s»)
-    ∷ flag (e .low .latched)
-    ∷ bits (e .critical .«below_s»)
-    ∷ flag (e .critical .latched)
-    ∷ []
-
--- the nine of what is shown
-unfoldable pub stateNumbers : BattState → List ℕ
-stateNumbers s =
-    bits (s .volts)
-    ∷ bits (s .«rest_volts»)
-    ∷ bits (s .«current_a»)
-    ∷ bits (s .«consumed_mah»)
-    ∷ bits (s .soc)
-    ∷ bits (s .«r_est»)
-    ∷ flag (s .low)
-    ∷ flag (s .critical)
-    ∷ flag (s .degraded)
-    ∷ []
-
--- the silence and its flags
-unfoldable pub silenceNumbers : Battery → List ℕ
-silenceNumbers b = bits (b .«missing_s») ∷ flag (b .present) ∷ flag (b .seen) ∷ []
-
 -- all 29, in the order in which they are read
-unfoldable pub batteryNumbers : Battery → List ℕ
-batteryNumbers b = configNumbers (b .est .cfg) ++ (estimatorNumbers (b .est) ++ (stateNumbers (b .state) ++ silenceNumbers b))
+unfoldable pub packedNumbers : Battery → List ℕ
+packedNumbers b = configNumbers (b .est .cfg) ++ batteryNumbers b
 
 -- 1 where there is no room for a battery, else 0
 unfoldable pub shortNumber : List ℕ → ℕ
@@ -146,4 +87,4 @@ shortNumber ns = cond (ltb (length ns) size) 1 0
 
 -- the numbers after a battery is stored at their start, where there is room for it; those behind it are as they were
 unfoldable pub storedOf : List ℕ → Battery → List ℕ
-storedOf ns b = cond (ltb (length ns) size) ns (sets ns 0 (batteryNumbers b))
+storedOf ns b = cond (ltb (length ns) size) ns (sets ns 0 (packedNumbers b))

@@ -9,7 +9,8 @@ use Rattle.relay_fsm.specs.declared.Gates.{Gates}
 use Rattle.relay_fsm.specs.Mode.{modeNumber, modeCount, modeAt, isAirborneOf, rankOf}
 use Rattle.relay_fsm.specs.Event.{eventAt}
 use Rattle.relay_fsm.specs.Fsm.{onOf}
-use Rattle.exports.specs.Numbers.{unknown, flag, bit}
+use Rattle.relay_math.specs.Small.{flag}
+use Rattle.exports.specs.Numbers.{unknown, bit}
 
 -- the gates by the four lowest bits, in the order of the Rust's fields
 unfoldable pub gatesFrom : ℕ → Gates

@@ -1,6 +1,6 @@
 -- Flags, bits and floats as the harness hands them over: by numbers.
 use Prim.Native.Nat.{ℕ, _/_, _%_}
-use mathlib.Core.Bool.{Bool, true, false}
+use mathlib.Core.Bool.{Bool}
 use mathlib.Core.List.{List}
 use lib.Dec.{eqb}
 use lib.ListN.{getD}
@@ -9,11 +9,6 @@ use lib.Ieee.{Float, binary32, ofBits}
 -- the answer where a number stands for nothing
 abbrev pub unknown : ℕ
 unknown = 0xffff_ffff
-
--- a flag as a number
-abbrev pub flag : Bool → ℕ
-flag true = 1
-flag false = 0
 
 -- whether the bit of a power of two is set
 abbrev pub bit : ℕ → ℕ → Bool

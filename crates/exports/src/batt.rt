@@ -1,6 +1,5 @@
 // The battery as 29 numbers: the pack 0..7, the estimator 8..16, what is shown 17..25, the silence and two flags 26..28. A slice may have more; those are neither read nor changed.
 
-use crate::numbers::flag_number;
 use crate::numbers::float;
 use crate::numbers::is_one;
 use crate::numbers::number;
@@ -11,14 +10,18 @@ use relay_batt::Battery;
 use relay_batt::BatteryEstimator;
 use relay_batt::Reading;
 use relay_batt::TripLatch;
+use relay_batt::numbers::estimator_numbers;
+use relay_batt::numbers::silence_numbers;
+use relay_batt::numbers::state_numbers;
 use relay_math::from_bits;
 use relay_math::to_bits;
 ghost use mathlib.Core.Path.{_≡_};
 ghost use Prim.Native.Nat.{_≤_, _<_};
 ghost use lib.ListN.{length};
 ghost use lib.Seq.{sets};
-ghost use Rattle.exports.specs.Batt.{configFrom, latchFrom, estimatorFrom, stateFrom, batteryFrom, readingFrom, newFrom, updateFrom};
-ghost use Rattle.exports.specs.Batt.{size, configNumbers, estimatorNumbers, stateNumbers, silenceNumbers, batteryNumbers, shortNumber, storedOf};
+ghost use Rattle.relay_batt.specs.Numbers.{estimatorBy, stateBy};
+ghost use Rattle.exports.specs.Batt.{configFrom, latchFrom, behindPack, batteryFrom, readingFrom, newFrom, updateFrom};
+ghost use Rattle.exports.specs.Batt.{size, configNumbers, packedNumbers, shortNumber, storedOf};
 
 // How many numbers a battery is.
 const SIZE: usize = 29;
@@ -52,7 +55,7 @@ fn latch_from(ns: &[u32], i: usize) -> TripLatch
 
 // The estimator of numbers 0 to 16.
 fn estimator_from(ns: &[u32]) -> BatteryEstimator
-    ensures { λ r. ⌜ r ≡ estimatorFrom (now (ns .entry)) ⌝ }
+    ensures { λ r. ⌜ r ≡ estimatorBy (configFrom (now (ns .entry))) (behindPack (now (ns .entry))) ⌝ }
 {
     BatteryEstimator {
         cfg: config_from(ns),
@@ -68,7 +71,7 @@ fn estimator_from(ns: &[u32]) -> BatteryEstimator
 
 // The state shown of numbers 17 to 25.
 fn state_from(ns: &[u32]) -> BattState
-    ensures { λ r. ⌜ r ≡ stateFrom (now (ns .entry)) ⌝ }
+    ensures { λ r. ⌜ r ≡ stateBy (behindPack (now (ns .entry))) ⌝ }
 {
     BattState {
         volts: float(ns, 17),
@@ -137,55 +140,10 @@ fn config_numbers(c: BattConfig) -> [u32; 8]
     ]
 }
 
-// The estimator's numbers without its pack's.
-fn estimator_numbers(e: BatteryEstimator) -> [u32; 9]
-    ensures { λ r. ⌜ r ≡ estimatorNumbers e ⌝ }
-{
-    [
-        to_bits(e.consumed_mah),
-        to_bits(e.r_est),
-        to_bits(e.prev_v),
-        to_bits(e.prev_i),
-        flag_number(e.have_prev),
-        to_bits(e.low.below_s),
-        flag_number(e.low.latched),
-        to_bits(e.critical.below_s),
-        flag_number(e.critical.latched),
-    ]
-}
-
-// The numbers of the state shown.
-fn state_numbers(s: BattState) -> [u32; 9]
-    ensures { λ r. ⌜ r ≡ stateNumbers s ⌝ }
-{
-    [
-        to_bits(s.volts),
-        to_bits(s.rest_volts),
-        to_bits(s.current_a),
-        to_bits(s.consumed_mah),
-        to_bits(s.soc),
-        to_bits(s.r_est),
-        flag_number(s.low),
-        flag_number(s.critical),
-        flag_number(s.degraded),
-    ]
-}
-
-// The silence and its two flags as numbers.
-fn silence_numbers(b: Battery) -> [u32; 3]
-    ensures { λ r. ⌜ r ≡ silenceNumbers b ⌝ }
-{
-    [
-        to_bits(b.missing_s),
-        flag_number(b.present),
-        flag_number(b.seen),
-    ]
-}
-
 // Stores a battery's numbers, from the start on.
 fn put_battery(out: &mut [u32], b: Battery)
     requires { ⌜ size ≤ length (now out) ⌝ }
-    ensures { λ _. ⌜ now (out .exit) ≡ sets (now (out .entry)) 0 (batteryNumbers b) ⌝ }
+    ensures { λ _. ⌜ now (out .exit) ≡ sets (now (out .entry)) 0 (packedNumbers b) ⌝ }
 {
     let est = b.est;
     let cfg = est.cfg;

@@ -1,13 +1,13 @@
 // The mode machine, by the numbers of modes and events; UNKNOWN is answered to any other number. The gates are bits: 1 level, 2 low throttle, 4 position, 8 checks; higher bits say nothing.
 
 use crate::numbers::UNKNOWN;
-use crate::numbers::flag_number;
 use crate::numbers::is_set;
 use relay_fsm::Event;
 use relay_fsm::FlightFsm;
 use relay_fsm::FoundEvent;
 use relay_fsm::Gates;
 use relay_fsm::Mode;
+use relay_math::flag_number;
 ghost use mathlib.Core.Path.{_≡_};
 ghost use Prim.Native.Nat.{_<_};
 ghost use Rattle.relay_fsm.specs.Mode.{modeCount, modeAt};

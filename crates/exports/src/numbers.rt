@@ -5,20 +5,10 @@ ghost use mathlib.Core.Path.{_≡_};
 ghost use Prim.Native.Nat.{_+_, _≤_, _<_};
 ghost use lib.ListN.{length, getD};
 ghost use lib.Seq.{sets};
-ghost use Rattle.exports.specs.Numbers.{flag, bit, floatAt, flagAt};
+ghost use Rattle.exports.specs.Numbers.{bit, floatAt, flagAt};
 
 // The answer where a number stands for nothing.
 pub const UNKNOWN: u32 = 0xffff_ffff;
-
-// A flag as a number, 1 or 0.
-pub fn flag_number(b: bool) -> u32
-    ensures { λ r. ⌜ r ≡ flag b ⌝ }
-{
-    if b {
-        return 1;
-    }
-    0
-}
 
 // Whether the bit of a power of two is set in n.
 pub(crate) fn is_set(n: u32, power: u32) -> bool

@@ -15,6 +15,7 @@ use Rattle.relay_preflight.specs.Table.{outstandingOf, maskLimit}
 use Rattle.relay_preflight.specs.Verdict.{firstBlockerOf, blockerNumber}
 use Rattle.falcon_failsafe.specs.declared.flight.Opening.{Opening}
 use Rattle.falcon_guidance.specs.declared.state.Tick.{Tick}
+use Rattle.relay_math.specs.Small.{flag, bits}
 use Rattle.falcon_guidance.specs.declared.state.Point.{Point}
 use Rattle.falcon_guidance.specs.declared.state.Mission.{Mission}
 use Rattle.falcon_guidance.specs.declared.state.Legs.{Legs}
@@ -314,11 +315,6 @@ besideOf s a =
       answer = a .answer;
     }
 
--- 0 or 1
-abbrev pub flag : Bool → ℕ
-flag true = 1
-flag false = 0
-
 -- "Fields 3 to 8 are 0 save for an accepted tick; motors off gives setpoint 0": landing, motors off, rearm, setpoint
 abbrev pub outputNumbers : Output → List ℕ
 outputNumbers Nothing = 0 ∷ 0 ∷ 0 ∷ 0 ∷ 0 ∷ 0 ∷ []
@@ -326,7 +322,7 @@ outputNumbers Totals = 0 ∷ 0 ∷ 0 ∷ 0 ∷ 0 ∷ 0 ∷ []
 outputNumbers Record = 0 ∷ 0 ∷ 0 ∷ 0 ∷ 0 ∷ 0 ∷ []
 outputNumbers (Ticks MotorsOff) = 0 ∷ 1 ∷ 0 ∷ 0 ∷ 0 ∷ 0 ∷ []
 outputNumbers (Ticks (Setpoint ned landing rearm)) =
-    flag landing ∷ 0 ∷ flag rearm ∷ toBits binary32 (ned .x) ∷ toBits binary32 (ned .y) ∷ toBits binary32 (ned .z) ∷ []
+    flag landing ∷ 0 ∷ flag rearm ∷ bits (ned .x) ∷ bits (ned .y) ∷ bits (ned .z) ∷ []
 
 -- "Answer, ten fields"
 abbrev pub answerFields : ℕ

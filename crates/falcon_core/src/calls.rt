@@ -1,7 +1,7 @@
 // The calls by lent values. Each takes the state and gives the state after it with its answer.
 ghost use mathlib.Core.Path.{_≡_};
 ghost use Rattle.falcon_core.specs.Calls.{opens, ticks, reports, commands, plans, points, zones, totals, saves, sequenceRefusal, allowedOf, commandedBy, dueAfter, answerOf, refusedOf, acceptedOf};
-ghost use Rattle.falcon_core.specs.Calls.{stepOf, toldOf, flightRefusedOf, flightAcceptedOf, noLegs, flightStepOf, isTick, totalsBeside, besideOf, withPoints, flag, numbersOf};
+ghost use Rattle.falcon_core.specs.Calls.{stepOf, toldOf, flightRefusedOf, flightAcceptedOf, noLegs, flightStepOf, isTick, totalsBeside, besideOf, withPoints, numbersOf};
 use crate::supervisor::Supervisor;
 use falcon_failsafe::failsafe::reported;
 use falcon_failsafe::flight::FlightSupervisor;
@@ -22,6 +22,7 @@ use falcon_totals::DayTotals;
 use relay_fsm::Event;
 use relay_fsm::Gates;
 use relay_fsm::Mode;
+use relay_math::flag_number;
 use relay_math::to_bits;
 use relay_preflight::CheckTable;
 use relay_preflight::TableVerdict;
@@ -108,9 +109,9 @@ impl Answer {
                 } => [
                     self.refusal,
                     m,
-                    number(landing),
+                    flag_number(landing),
                     0,
-                    number(rearm),
+                    flag_number(rearm),
                     to_bits(ned.x),
                     to_bits(ned.y),
                     to_bits(ned.z),
@@ -120,16 +121,6 @@ impl Answer {
             },
         }
     }
-}
-
-// 0 or 1.
-pub fn number(b: bool) -> u32
-    ensures { λ r. ⌜ r ≡ flag b ⌝ }
-{
-    if b {
-        return 1;
-    }
-    0
 }
 
 // The answer of a flight.

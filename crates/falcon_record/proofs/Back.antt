@@ -8,28 +8,27 @@ use lib.Dec.{eqb, lit<, lit≤}
 use lib.ListN.{getD, replicate, getD-replicate}
 use lib.Ieee.{Float, binary32, ofBits, toBits}
 use Rattle.columns.specs.Line.{numberAt, floatAt}
-use Rattle.relay_math.proofs.Laws.{read-back}
+use Rattle.relay_math.specs.Small.{bits}
+use Rattle.relay_math.proofs.Laws.{read-back, flag-back}
 use Rattle.relay_fsm.specs.Mode.{modeAt}
 use Rattle.relay_fsm.proofs.Finite.{mode-at}
 use Rattle.relay_batt.specs.Config.{forPackOf}
-use Rattle.relay_batt.specs.Fits.{Fit, FitEstimator, FitState, FitBattery}
+use Rattle.relay_batt.specs.declared.config.BattConfig.{BattConfig}
+use Rattle.relay_batt.specs.Fits.{Fit, FitBattery}
+use Rattle.relay_batt.specs.Numbers.{estimatorNumbers, stateNumbers, silenceNumbers, batteryNumbers, estimatorBy, stateBy, batteryBy}
+use Rattle.relay_batt.proofs.Back as batt
 use Rattle.falcon_guidance.specs.declared.state.Zone.{Zone}
 use Rattle.falcon_guidance.specs.State.{origin, noZone, nowhere, maxWaypoints, maxKeepoutZones, pointNumbers, zoneNumbers}
 use Rattle.falcon_guidance.specs.Zones.{noPlace}
 use Rattle.falcon_totals.specs.Totals.{totalsNumbers}
 use Rattle.falcon_core.specs.declared.supervisor.Supervisor.{Supervisor}
-use Rattle.falcon_core.specs.Calls.{flag}
 use Rattle.falcon_core.specs.SoundState.{FitConfig, FitHold}
 use Rattle.falcon_record.specs.Form.{Form, pointsAt, zoneWidth, zonesAt}
-use Rattle.falcon_record.specs.Columns.{bits, noTop, configColumns, checkColumns, estimatorColumns, shownColumns, silenceColumns, holdColumns, countColumns, useColumns, scalarColumns, pointColumns, pointsColumns, zoneColumns, zonesColumns, laterColumns, placeColumns, columnsIn}
-use Rattle.falcon_record.specs.From.{configFrom, estimatorFrom, shownFrom, batteryFrom, holdFrom, totalsFrom, pointFrom, pointsFrom, zoneFrom, zonesFrom, flightFrom, recordFrom}
+use Rattle.falcon_record.specs.Columns.{noTop, configColumns, checkColumns, holdColumns, countColumns, useColumns, scalarColumns, pointColumns, pointsColumns, zoneColumns, zonesColumns, laterColumns, placeColumns, columnsIn}
+use Rattle.falcon_record.specs.From.{configFrom, batteryFrom, holdFrom, totalsFrom, pointFrom, pointsFrom, zoneFrom, zonesFrom, flightFrom, recordFrom}
 use Rattle.falcon_record.specs.Kept.{FromPack, Kept, Ready, Carries}
 use Rattle.falcon_record.proofs.Stretch.{place-at, refilled}
 use Rattle.falcon_record.proofs.Lengths.{length-scalars, length-point, length-zone, length-before}
-
-flag-back : (b : Bool) → eqb (flag b) 1 ≡ b
-flag-back true = refl
-flag-back false = refl
 
 -- number n is the bits of x, an f32 value
 float-back : (ns : List ℕ) (n : ℕ) (x : Float) → Fit x → numberAt ns n ≡ bits x → floatAt ns n ≡ x
@@ -50,53 +49,16 @@ module _ (s : Supervisor) (rest : List ℕ) where
         «calibration_configured» = flag-back (c .«calibration_configured») i;
       }
 
-  estimator-back : FitConfig (s .flight .config) → FromPack (s .flight) → FitEstimator (s .flight .battery .est) → estimatorFrom (scalarColumns s ++ rest) ≡ s .flight .battery .est
-  unfolding estimatorFrom scalarColumns configColumns checkColumns estimatorColumns
-  estimator-back c m k =
-      let e = s .flight .battery .est in
-      let volts = s .flight .config .«low_batt_v» in
-      let made : forPackOf (e .cfg .cells) (ofBits binary32 (bits volts)) ≡ e .cfg = ap (forPackOf (e .cfg .cells)) (read-back volts (c .volts)) ∙ sym (m .made) in
-      λ i. record {
-        cfg = made i;
-        «consumed_mah» = read-back (e .«consumed_mah») (k .used) i;
-        «r_est» = read-back (e .«r_est») (k .resistance) i;
-        «prev_v» = read-back (e .«prev_v») (k .volts) i;
-        «prev_i» = read-back (e .«prev_i») (k .amps) i;
-        «have_prev» = flag-back (e .«have_prev») i;
-        low = record { «below_s» = read-back (e .low .«below_s») (k .low-time) i; latched = flag-back (e .low .latched) i };
-        critical = record { «below_s» = read-back (e .critical .«below_s») (k .critical-time) i; latched = flag-back (e .critical .latched) i };
-      }
-
-  shown-back : FitState (s .flight .battery .state) → shownFrom (scalarColumns s ++ rest) ≡ s .flight .battery .state
-  unfolding shownFrom scalarColumns configColumns checkColumns estimatorColumns shownColumns
-  shown-back k =
-      let b = s .flight .battery .state in
-      λ i. record {
-        volts = read-back (b .volts) (k .volts) i;
-        «rest_volts» = read-back (b .«rest_volts») (k .rest) i;
-        «current_a» = read-back (b .«current_a») (k .amps) i;
-        «consumed_mah» = read-back (b .«consumed_mah») (k .used) i;
-        soc = read-back (b .soc) (k .charge) i;
-        «r_est» = read-back (b .«r_est») (k .resistance) i;
-        low = flag-back (b .low) i;
-        critical = flag-back (b .critical) i;
-        degraded = flag-back (b .degraded) i;
-      }
-
   battery-back : FitConfig (s .flight .config) → FromPack (s .flight) → FitBattery (s .flight .battery) → batteryFrom (scalarColumns s ++ rest) ≡ s .flight .battery
-  unfolding batteryFrom scalarColumns configColumns checkColumns estimatorColumns shownColumns silenceColumns
+  unfolding batteryFrom batteryBy estimatorBy stateBy scalarColumns configColumns checkColumns batteryNumbers estimatorNumbers stateNumbers silenceNumbers
   battery-back c m k =
       let b = s .flight .battery in
-      λ i. record {
-        est = estimator-back c m (k .estimator) i;
-        state = shown-back (k .shown) i;
-        «missing_s» = read-back (b .«missing_s») (k .silence) i;
-        present = flag-back (b .present) i;
-        seen = flag-back (b .seen) i;
-      }
+      let volts = s .flight .config .«low_batt_v» in
+      let made : forPackOf (b .est .cfg .cells) (ofBits binary32 (bits volts)) ≡ b .est .cfg = ap (forPackOf (b .est .cfg .cells)) (read-back volts (c .volts)) ∙ sym (m .made) in
+      ap (λ (pack : BattConfig). batteryBy pack (λ k. numberAt (scalarColumns s ++ rest) (12 + k))) made ∙ batt.battery-back b rest k
 
   hold-back : FitHold (s .flight .hold) → holdFrom (scalarColumns s ++ rest) ≡ s .flight .hold
-  unfolding holdFrom scalarColumns configColumns checkColumns estimatorColumns shownColumns silenceColumns holdColumns
+  unfolding holdFrom scalarColumns configColumns checkColumns batteryNumbers estimatorNumbers stateNumbers silenceNumbers holdColumns
   hold-back k =
       let h = s .flight .hold in
       λ i. record {
@@ -108,7 +70,7 @@ module _ (s : Supervisor) (rest : List ℕ) where
       }
 
   totals-back : totalsFrom (scalarColumns s ++ rest) ≡ s .totals
-  unfolding totalsFrom scalarColumns configColumns checkColumns estimatorColumns shownColumns silenceColumns holdColumns countColumns totalsNumbers
+  unfolding totalsFrom scalarColumns configColumns checkColumns batteryNumbers estimatorNumbers stateNumbers silenceNumbers holdColumns countColumns totalsNumbers
   totals-back = refl
 
 -- ---- the places
@@ -162,7 +124,7 @@ module _ (form : Form) (s : Supervisor) where
       }
 
   points-back : Kept s → Carries form s → pointsFrom (columnsIn form s) ≡ s .waypoints
-  unfolding pointsFrom columnsIn scalarColumns configColumns checkColumns estimatorColumns shownColumns silenceColumns holdColumns countColumns totalsNumbers useColumns
+  unfolding pointsFrom columnsIn scalarColumns configColumns checkColumns batteryNumbers estimatorNumbers stateNumbers silenceNumbers holdColumns countColumns totalsNumbers useColumns
   points-back k c =
       refilled _ nowhere origin maxWaypoints (s .waypoints) (s .flight .mission .«wp_count») (λ i. pointFrom (columnsIn form s) (pointsAt + pointNumbers * i))
       (k .sound .mission .places) (λ i h. point-back i k c h)
@@ -214,7 +176,7 @@ module _ (form : Form) (s : Supervisor) where
       }
 
   zones-back : Kept s → zonesFrom form (columnsIn form s) ≡ s .flight .zones
-  unfolding zonesFrom columnsIn scalarColumns configColumns checkColumns estimatorColumns shownColumns silenceColumns holdColumns countColumns totalsNumbers useColumns
+  unfolding zonesFrom columnsIn scalarColumns configColumns checkColumns batteryNumbers estimatorNumbers stateNumbers silenceNumbers holdColumns countColumns totalsNumbers useColumns
   zones-back k =
       let zs = s .flight .zones in
       λ j. record {
@@ -225,7 +187,7 @@ module _ (form : Form) (s : Supervisor) where
   -- ---- all
 
   flight-back : Kept s → flightFrom form (columnsIn form s) ≡ s .flight
-  unfolding flightFrom modeAt columnsIn scalarColumns configColumns checkColumns estimatorColumns shownColumns silenceColumns holdColumns countColumns totalsNumbers useColumns
+  unfolding flightFrom modeAt columnsIn scalarColumns configColumns checkColumns batteryNumbers estimatorNumbers stateNumbers silenceNumbers holdColumns countColumns totalsNumbers useColumns
   flight-back k =
       let f = s .flight in
       let rest = placeColumns form s in

@@ -7,16 +7,17 @@ use mathlib.Core.List.{List, [], _∷_, _++_}
 use lib.ListN.{length, replicate, length-append}
 use Rattle.falcon_guidance.specs.declared.state.Point.{Point}
 use Rattle.falcon_guidance.specs.declared.state.Zone.{Zone}
+use Rattle.relay_batt.specs.Numbers.{estimatorNumbers, stateNumbers, silenceNumbers, batteryNumbers}
 use Rattle.falcon_guidance.specs.declared.state.Zones.{Zones}
 use Rattle.falcon_guidance.specs.State.{maxKeepoutZones, pointNumbers, zoneNumbers}
 use Rattle.falcon_totals.specs.Totals.{totalsNumbers}
 use Rattle.falcon_core.specs.declared.supervisor.Supervisor.{Supervisor}
 use Rattle.falcon_record.specs.Form.{Form, pointsAt, zoneWidth, zonesAt, laterAt, targetNumbers, fieldsOf}
-use Rattle.falcon_record.specs.Columns.{configColumns, checkColumns, estimatorColumns, shownColumns, silenceColumns, holdColumns, countColumns, useColumns, scalarColumns, pointColumns, pointsColumns, zoneColumns, zonesColumns, laterColumns, columnsIn}
+use Rattle.falcon_record.specs.Columns.{configColumns, checkColumns, holdColumns, countColumns, useColumns, scalarColumns, pointColumns, pointsColumns, zoneColumns, zonesColumns, laterColumns, columnsIn}
 use Rattle.falcon_record.proofs.Stretch.{length-placed}
 
 pub length-scalars : (s : Supervisor) → length (scalarColumns s) ≡ pointsAt
-unfolding scalarColumns configColumns checkColumns estimatorColumns shownColumns silenceColumns holdColumns countColumns totalsNumbers useColumns
+unfolding scalarColumns configColumns checkColumns batteryNumbers estimatorNumbers stateNumbers silenceNumbers holdColumns countColumns totalsNumbers useColumns
 length-scalars s = refl
 
 pub length-point : (p : Point) → length (pointColumns p) ≡ pointNumbers

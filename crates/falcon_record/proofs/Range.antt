@@ -8,7 +8,9 @@ use lib.ListN.{getD, replicate}
 use lib.Ieee.{Float, binary32}
 use lib.Ieee.Bits.{toBits-lt}
 use Rattle.columns.specs.Line.{InRange}
+use Rattle.relay_math.specs.Small.{flag, bits}
 use Rattle.relay_fsm.proofs.Finite.{mode-number-below}
+use Rattle.relay_batt.specs.Numbers.{estimatorNumbers, stateNumbers, silenceNumbers, batteryNumbers}
 use Rattle.relay_batt.specs.Fits.{Fit, FitEstimator, FitState, FitBattery}
 use Rattle.relay_batt.specs.declared.battery.Battery.{Battery}
 use Rattle.relay_batt.specs.declared.estimator.BattState.{BattState}
@@ -22,12 +24,11 @@ use Rattle.falcon_guidance.specs.Zones.{noPlace}
 use Rattle.falcon_failsafe.specs.declared.flight.FlightSupervisor.{FlightSupervisor}
 use Rattle.falcon_totals.specs.Totals.{totalsNumbers}
 use Rattle.falcon_core.specs.declared.supervisor.Supervisor.{Supervisor}
-use Rattle.falcon_core.specs.Calls.{flag}
 use Rattle.falcon_core.specs.SoundState.{FitPoint, FitZone, FitConfig, FitHold, FitFlight, SoundFlight}
 use Rattle.falcon_core.proofs.Parts.{cond-keeps}
 use Rattle.falcon_core.proofs.Fits.{origin-fits, no-zone-fits}
 use Rattle.falcon_record.specs.Form.{Form, targetNumbers}
-use Rattle.falcon_record.specs.Columns.{bits, noTop, configColumns, checkColumns, estimatorColumns, shownColumns, silenceColumns, holdColumns, countColumns, useColumns, scalarColumns, placed, placeIn, pointColumns, pointsColumns, zoneColumns, zonesColumns, laterColumns, placeColumns, columnsIn}
+use Rattle.falcon_record.specs.Columns.{noTop, configColumns, checkColumns, holdColumns, countColumns, useColumns, scalarColumns, placed, placeIn, pointColumns, pointsColumns, zoneColumns, zonesColumns, laterColumns, placeColumns, columnsIn}
 use Rattle.falcon_record.specs.Kept.{Kept}
 
 in-append : (a b : List ℕ) → InRange a → InRange b → InRange (a ++ b)
@@ -59,17 +60,23 @@ checks-in : (f : FlightSupervisor) (ps : List Point) → SoundFlight f ps → In
 unfolding checkColumns
 checks-in f ps k = (omega (arith, k .checks .required-below), (omega (arith, k .checks .passed-below), (omega (arith, mode-number-below (f .fsm .mode)), tt)))
 
-estimator-in : (e : BatteryEstimator) → FitEstimator e → InRange (estimatorColumns e)
-unfolding estimatorColumns
+estimator-in : (e : BatteryEstimator) → FitEstimator e → InRange (estimatorNumbers e)
+unfolding estimatorNumbers
 estimator-in e k = search (bits-in, flag-in) depth 16
 
-shown-in : (s : BattState) → FitState s → InRange (shownColumns s)
-unfolding shownColumns
+shown-in : (s : BattState) → FitState s → InRange (stateNumbers s)
+unfolding stateNumbers
 shown-in s k = search (bits-in, flag-in) depth 16
 
-silence-in : (b : Battery) → FitBattery b → InRange (silenceColumns b)
-unfolding silenceColumns
+silence-in : (b : Battery) → FitBattery b → InRange (silenceNumbers b)
+unfolding silenceNumbers
 silence-in b k = search (bits-in, flag-in) depth 16
+
+battery-in : (b : Battery) → FitBattery b → InRange (batteryNumbers b)
+unfolding batteryNumbers
+battery-in b k =
+    in-append (estimatorNumbers (b .est)) _ (estimator-in (b .est) (k .estimator))
+    (in-append (stateNumbers (b .state)) _ (shown-in (b .state) (k .shown)) (silence-in b k))
 
 hold-in : (h : Hold) → FitHold h → InRange (holdColumns h)
 unfolding holdColumns
@@ -93,12 +100,10 @@ scalars-in s k =
       lit< tt,
       in-append (configColumns (f .config) (b .est .cfg .cells)) _ (config-in (f .config) (b .est .cfg .cells) (k .fit .config) (k .pack .cells-below))
           (in-append (checkColumns f) _ (checks-in f (s .waypoints) (k .sound))
-          (in-append (estimatorColumns (b .est)) _ (estimator-in (b .est) (k .fit .battery .estimator))
-          (in-append (shownColumns (b .state)) _ (shown-in (b .state) (k .fit .battery .shown))
-          (in-append (silenceColumns b) _ (silence-in b (k .fit .battery))
+          (in-append (batteryNumbers b) _ (battery-in b (k .fit .battery))
           (in-append (holdColumns (f .hold)) _ (hold-in (f .hold) (k .fit .hold))
           (in-append (countColumns f) _ (counts-in f (s .waypoints) (k .sound) (k .wind-below))
-          (in-append (totalsNumbers (s .totals)) (useColumns f) (k .totals-below) (use-in f (s .waypoints) (k .sound))))))))),
+          (in-append (totalsNumbers (s .totals)) (useColumns f) (k .totals-below) (use-in f (s .waypoints) (k .sound))))))),
     )
 
 -- ---- the places

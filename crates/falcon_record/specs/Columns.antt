@@ -4,11 +4,9 @@ use mathlib.Core.Bool.{Bool, cond}
 use mathlib.Core.List.{List, [], _∷_, _++_}
 use lib.Dec.{ltb}
 use lib.ListN.{getD, replicate}
-use lib.Ieee.{Float, binary32, toBits}
+use Rattle.relay_math.specs.Small.{flag, bits}
 use Rattle.relay_fsm.specs.Mode.{modeNumber}
-use Rattle.relay_batt.specs.declared.battery.Battery.{Battery}
-use Rattle.relay_batt.specs.declared.estimator.BattState.{BattState}
-use Rattle.relay_batt.specs.declared.estimator.BatteryEstimator.{BatteryEstimator}
+use Rattle.relay_batt.specs.Numbers.{batteryNumbers}
 use Rattle.falcon_guidance.specs.declared.state.Point.{Point}
 use Rattle.falcon_guidance.specs.declared.state.Zone.{Zone}
 use Rattle.falcon_guidance.specs.declared.state.Config.{Config}
@@ -19,12 +17,7 @@ use Rattle.falcon_guidance.specs.Zones.{noPlace}
 use Rattle.falcon_failsafe.specs.declared.flight.FlightSupervisor.{FlightSupervisor}
 use Rattle.falcon_totals.specs.Totals.{totalsNumbers}
 use Rattle.falcon_core.specs.declared.supervisor.Supervisor.{Supervisor}
-use Rattle.falcon_core.specs.Calls.{flag}
 use Rattle.falcon_record.specs.Form.{Form, targetNumbers}
-
--- "Floats are their bits as a number."
-abbrev pub bits : Float → ℕ
-bits x = toBits binary32 x
 
 -- the kind of the line
 abbrev pub recordKind : ℕ
@@ -47,38 +40,6 @@ configColumns c cells =
 unfoldable pub checkColumns : FlightSupervisor → List ℕ
 checkColumns f = f .«check_table» .required ∷ f .«check_table» .passed ∷ modeNumber (f .fsm .mode) ∷ []
 
--- 13 to 21: used, resistance, volts and amps before and whether there were any, and the two latches with their seconds below
-unfoldable pub estimatorColumns : BatteryEstimator → List ℕ
-estimatorColumns e =
-    bits (e .«consumed_mah»)
-    ∷ bits (e .«r_est»)
-    ∷ bits (e .«prev_v»)
-    ∷ bits (e .«prev_i»)
-    ∷ flag (e .«have_prev»)
-    ∷ bits (e .low .«below_s»)
-    ∷ flag (e .low .latched)
-    ∷ bits (e .critical .«below_s»)
-    ∷ flag (e .critical .latched)
-    ∷ []
-
--- 22 to 30: the state shown
-unfoldable pub shownColumns : BattState → List ℕ
-shownColumns s =
-    bits (s .volts)
-    ∷ bits (s .«rest_volts»)
-    ∷ bits (s .«current_a»)
-    ∷ bits (s .«consumed_mah»)
-    ∷ bits (s .soc)
-    ∷ bits (s .«r_est»)
-    ∷ flag (s .low)
-    ∷ flag (s .critical)
-    ∷ flag (s .degraded)
-    ∷ []
-
--- 31 to 33: the silence, whether the last tick had a reading, whether any had
-unfoldable pub silenceColumns : Battery → List ℕ
-silenceColumns b = bits (b .«missing_s») ∷ flag (b .present) ∷ flag (b .seen) ∷ []
-
 -- 34 to 39: the hold point, the regime, braking and its two times
 unfoldable pub holdColumns : Hold → List ℕ
 holdColumns h =
@@ -98,7 +59,7 @@ countColumns f = f .counts .«runaway_count» ∷ f .counts .«wind_count» ∷ 
 unfoldable pub useColumns : FlightSupervisor → List ℕ
 useColumns f = f .mission .«wp_count» ∷ f .mission .«wp_index» ∷ f .zones .«zone_count» ∷ []
 
--- the columns before the first point
+-- the columns before the first point; 13 to 33 are the battery's: the estimator, the state shown from 22 on, the silence from 31 on
 unfoldable pub scalarColumns : Supervisor → List ℕ
 scalarColumns s =
     let f = s .flight in
@@ -106,13 +67,11 @@ scalarColumns s =
     recordKind
     ∷ (configColumns (f .config) (b .est .cfg .cells)
     ++ (checkColumns f
-    ++ (estimatorColumns (b .est)
-    ++ (shownColumns (b .state)
-    ++ (silenceColumns b
+    ++ (batteryNumbers b
     ++ (holdColumns (f .hold)
     ++ (countColumns f
     ++ (totalsNumbers (s .totals)
-    ++ useColumns f))))))))
+    ++ useColumns f))))))
 
 -- f 0, f 1 and so on, n stretches
 unfoldable pub placed : (ℕ → List ℕ) → ℕ → List ℕ

@@ -7,8 +7,7 @@ use Rattle.columns.specs.Line.{numberAt, floatAt, flagAt}
 use Rattle.relay_fsm.specs.Mode.{modeAt}
 use Rattle.relay_batt.specs.Config.{forPackOf}
 use Rattle.relay_batt.specs.declared.battery.Battery.{Battery}
-use Rattle.relay_batt.specs.declared.estimator.BattState.{BattState}
-use Rattle.relay_batt.specs.declared.estimator.BatteryEstimator.{BatteryEstimator}
+use Rattle.relay_batt.specs.Numbers.{batteryBy}
 use Rattle.falcon_guidance.specs.declared.state.Point.{Point}
 use Rattle.falcon_guidance.specs.declared.state.Zone.{Zone}
 use Rattle.falcon_guidance.specs.declared.state.Config.{Config}
@@ -31,37 +30,9 @@ configFrom ns =
       «calibration_configured» = flagAt ns 8;
     }
 
--- the configuration is the one that the opening volts give for so many cells
-unfoldable pub estimatorFrom : List ℕ → BatteryEstimator
-estimatorFrom ns =
-    record {
-      cfg = forPackOf (numberAt ns 7) (floatAt ns 6);
-      «consumed_mah» = floatAt ns 12;
-      «r_est» = floatAt ns 13;
-      «prev_v» = floatAt ns 14;
-      «prev_i» = floatAt ns 15;
-      «have_prev» = flagAt ns 16;
-      low = record { «below_s» = floatAt ns 17; latched = flagAt ns 18 };
-      critical = record { «below_s» = floatAt ns 19; latched = flagAt ns 20 };
-    }
-
-unfoldable pub shownFrom : List ℕ → BattState
-shownFrom ns =
-    record {
-      volts = floatAt ns 21;
-      «rest_volts» = floatAt ns 22;
-      «current_a» = floatAt ns 23;
-      «consumed_mah» = floatAt ns 24;
-      soc = floatAt ns 25;
-      «r_est» = floatAt ns 26;
-      low = flagAt ns 27;
-      critical = flagAt ns 28;
-      degraded = flagAt ns 29;
-    }
-
+-- numbers 12 to 32; the pack is the one that the opening volts give for so many cells
 unfoldable pub batteryFrom : List ℕ → Battery
-batteryFrom ns =
-    record { est = estimatorFrom ns; state = shownFrom ns; «missing_s» = floatAt ns 30; present = flagAt ns 31; seen = flagAt ns 32 }
+batteryFrom ns = batteryBy (forPackOf (numberAt ns 7) (floatAt ns 6)) (λ k. numberAt ns (12 + k))
 
 unfoldable pub holdFrom : List ℕ → Hold
 holdFrom ns =

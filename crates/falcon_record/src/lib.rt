@@ -3,16 +3,16 @@ ghost use mathlib.Core.Path.{_≡_};
 ghost use mathlib.Core.Bool.{false};
 ghost use mathlib.Core.List.{[], _∷_, _++_};
 ghost use Prim.Native.Nat.{_<_};
+ghost use Rattle.relay_batt.specs.Numbers.{batteryNumbers};
 ghost use Rattle.falcon_guidance.specs.State.{origin, noZone, nowhere, maxWaypoints, maxKeepoutZones};
 ghost use Rattle.falcon_guidance.specs.Zones.{noPlace};
 ghost use Rattle.falcon_totals.specs.Totals.{totalsNumbers};
-ghost use Rattle.falcon_record.specs.Columns.{recordKind, configColumns, checkColumns, estimatorColumns, shownColumns, silenceColumns, holdColumns, countColumns, useColumns};
+ghost use Rattle.falcon_record.specs.Columns.{recordKind, configColumns, checkColumns, holdColumns, countColumns, useColumns};
 ghost use Rattle.falcon_record.specs.Columns.{scalarColumns, placeIn, pointColumns, zoneColumns, pointsColumns, zonesColumns};
 ghost use Rattle.falcon_record.specs.Saved.{writtenForm, columnsOf, saveStep, savedOver};
 use columns::line::put_numbers;
 use falcon_core::calls::Answer;
 use falcon_core::calls::Answered;
-use falcon_core::calls::number;
 use falcon_core::calls::refused;
 use falcon_core::supervisor::Supervisor;
 use falcon_failsafe::flight::FlightSupervisor;
@@ -21,9 +21,11 @@ use falcon_guidance::state::Point;
 use falcon_guidance::state::Zone;
 use falcon_guidance::state::Zones;
 use falcon_totals::DayTotals;
-use relay_batt::BattState;
 use relay_batt::Battery;
-use relay_batt::BatteryEstimator;
+use relay_batt::numbers::estimator_numbers;
+use relay_batt::numbers::silence_numbers;
+use relay_batt::numbers::state_numbers;
+use relay_math::flag_number;
 use relay_math::to_bits;
 
 // The kind of the line whose columns these are.
@@ -61,7 +63,7 @@ fn config_numbers(c: Config, cells: u32) -> [u32; 8]
         to_bits(c.cruise_alt),
         to_bits(c.low_batt_v),
         cells,
-        number(c.calibration_configured),
+        flag_number(c.calibration_configured),
     ]
 }
 
@@ -75,47 +77,6 @@ fn check_numbers(f: FlightSupervisor) -> [u32; 3]
     [table.required, table.passed, mode.number()]
 }
 
-// Used, resistance, volts and amps before and whether there were any, and the two latches with their seconds below.
-fn estimator_numbers(e: BatteryEstimator) -> [u32; 9]
-    ensures { λ r. ⌜ r ≡ estimatorColumns e ⌝ }
-{
-    [
-        to_bits(e.consumed_mah),
-        to_bits(e.r_est),
-        to_bits(e.prev_v),
-        to_bits(e.prev_i),
-        number(e.have_prev),
-        to_bits(e.low.below_s),
-        number(e.low.latched),
-        to_bits(e.critical.below_s),
-        number(e.critical.latched),
-    ]
-}
-
-// The battery state shown.
-fn shown_numbers(s: BattState) -> [u32; 9]
-    ensures { λ r. ⌜ r ≡ shownColumns s ⌝ }
-{
-    [
-        to_bits(s.volts),
-        to_bits(s.rest_volts),
-        to_bits(s.current_a),
-        to_bits(s.consumed_mah),
-        to_bits(s.soc),
-        to_bits(s.r_est),
-        number(s.low),
-        number(s.critical),
-        number(s.degraded),
-    ]
-}
-
-// The silence, whether the last tick had a reading, whether any had.
-fn silence_numbers(b: Battery) -> [u32; 3]
-    ensures { λ r. ⌜ r ≡ silenceColumns b ⌝ }
-{
-    [to_bits(b.missing_s), number(b.present), number(b.seen)]
-}
-
 // The hold point, the regime, braking and its two times; the tilt and wind counts, the failsafe latch, the motors.
 fn hold_numbers(f: FlightSupervisor) -> [u32; 10]
     ensures { λ r. ⌜ r ≡ holdColumns (f .hold) ++ countColumns f ⌝ }
@@ -123,14 +84,14 @@ fn hold_numbers(f: FlightSupervisor) -> [u32; 10]
     [
         to_bits(f.hold.hold_xy.x),
         to_bits(f.hold.hold_xy.y),
-        number(f.hold.hold_regime),
-        number(f.hold.hold_braking),
+        flag_number(f.hold.hold_regime),
+        flag_number(f.hold.hold_braking),
         to_bits(f.hold.brake_s),
         to_bits(f.hold.brake_rest_s),
         f.counts.runaway_count,
         f.counts.wind_count,
-        number(f.rtl_latched),
-        number(f.motors_were_off),
+        flag_number(f.rtl_latched),
+        flag_number(f.motors_were_off),
     ]
 }
 
@@ -156,13 +117,13 @@ fn opening_numbers(f: FlightSupervisor) -> [u32; OPENING]
 
 // The battery.
 fn battery_numbers(b: Battery) -> [u32; BATTERY]
-    ensures { λ r. ⌜ r ≡ estimatorColumns (b .est) ++ (shownColumns (b .state) ++ silenceColumns b) ⌝ }
+    ensures { λ r. ⌜ r ≡ batteryNumbers b ⌝ }
 {
     let est = b.est;
     let state = b.state;
     let mut numbers = [0u32; BATTERY];
     put_numbers(&mut numbers, 0, &estimator_numbers(est));
-    put_numbers(&mut numbers, 9, &shown_numbers(state));
+    put_numbers(&mut numbers, 9, &state_numbers(state));
     put_numbers(&mut numbers, 18, &silence_numbers(b));
     numbers
 }

@@ -9,3 +9,4 @@ pub mod Sound
 pub mod SoundTest
 pub mod Stays
 pub mod Fits
+pub mod Back

@@ -6,3 +6,4 @@ pub mod Battery
 pub mod Bounds
 pub mod Sound
 pub mod Fits
+pub mod Numbers

@@ -5,6 +5,7 @@ pub mod config;
 pub mod curve;
 pub mod estimator;
 pub mod latch;
+pub mod numbers;
 
 pub use battery::Battery;
 pub use battery::Reading;

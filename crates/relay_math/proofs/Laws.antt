@@ -1,4 +1,4 @@
--- Laws of bits and of the root, for those who read or call. Assumes nothing.
+-- Laws of bits, of flags and of the root, for those who read or call. Assumes nothing.
 use mathlib.Core.Path.{_≡_, refl, sym, ap, _∙_, subst}
 use mathlib.Core.Bool.{Bool, true, false, _&&_, cond}
 use Prim.Native.Nat.{ℕ, zero, suc, _+_, _-_, _*_, _/_, _%_, _^_, _≤_, _<_, zero-le, compare}
@@ -16,6 +16,7 @@ use lib.Ieee.Order.{le-of-values}
 use lib.Ieee.Positive.{positive}
 use lib.Ieee.Scale.{finite}
 use Rattle.relay_math.specs.Root.{wholeRoot, radicand, dropped, rounded, ranged, rootOf, root}
+use Rattle.relay_math.specs.Small.{flag}
 use Rattle.relay_math.proofs.Small.{is-nan}
 use Rattle.relay_math.proofs.Squares.{sq-lt-back}
 pub use Rattle.relay_math.proofs.Nearest.{Within, root-nearest}
@@ -37,6 +38,11 @@ written-again b h = go (nanBits binary32 b) (sym (nanBits-is binary32 b))
     go : (z : Bool) → isNan (ofBits binary32 b) ≡ z → toBits binary32 (ofBits binary32 b) ≡ cond z 0x7fc0_0000 b
     go true e = nan-bits (ofBits binary32 b) e
     go false e = toBits-ofBits binary32 b h (rw e tt)
+
+-- a flag too
+pub flag-back : (b : Bool) → eqb (flag b) 1 ≡ b
+flag-back true = refl
+flag-back false = refl
 
 -- ---- the exponent's range
 radicand-under : (x : Float) → T (fits binary32 x) → radicand binary32 x < 2 ^ 426

@@ -1,7 +1,7 @@
--- `f32::max`, `f32::clamp` and `u32::saturating_add` of Rust's library.
+-- `f32::max`, `f32::clamp` and `u32::saturating_add` of Rust's library; flags and floats as numbers.
 use Prim.Native.Nat.{ℕ, min, _+_, _-_, _^_}
-use mathlib.Core.Bool.{cond}
-use lib.Ieee.{Float, isNan, lt}
+use mathlib.Core.Bool.{Bool, true, false, cond}
+use lib.Ieee.{Float, binary32, toBits, isNan, lt}
 
 -- `max`: the larger, and the other where one is NaN
 unfoldable pub maxOf : Float → Float → Float
@@ -14,3 +14,12 @@ clampOf x lo hi = cond (lt x lo) lo (cond (lt hi x) hi x)
 -- `saturating_add`: the sum, at most the largest u32
 abbrev pub saturatingAddOf : ℕ → ℕ → ℕ
 saturatingAddOf a b = min (a + b) (2 ^ 32 - 1)
+
+-- a flag as a number
+abbrev pub flag : Bool → ℕ
+flag true = 1
+flag false = 0
+
+-- "Floats are their bits as a number."
+abbrev pub bits : Float → ℕ
+bits x = toBits binary32 x

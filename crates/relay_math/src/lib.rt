@@ -1,9 +1,9 @@
-// Floats: bits in and out for every pattern, and what the Rust takes from its library and Rattle's has not.
+// Floats: bits in and out for every pattern, and what the Rust takes from its library and Rattle's has not. Flags as numbers.
 
 ghost use mathlib.Core.Path.{_≡_};
 ghost use lib.Ieee.{binary32, ofBits, toBits};
 ghost use lib.Ieee.Scale.{finite};
-ghost use Rattle.relay_math.specs.Small.{maxOf, clampOf, saturatingAddOf};
+ghost use Rattle.relay_math.specs.Small.{maxOf, clampOf, saturatingAddOf, flag};
 
 mod root;
 
@@ -74,4 +74,14 @@ pub fn saturating_add(a: u32, b: u32) -> u32
         return 0xffff_ffff;
     }
     a + b
+}
+
+// A flag as a number, 1 or 0.
+pub fn flag_number(b: bool) -> u32
+    ensures { λ r. ⌜ r ≡ flag b ⌝ }
+{
+    if b {
+        return 1;
+    }
+    0
 }

@@ -1,5 +1,5 @@
 use mathlib.Core.Path.{refl}
-use Rattle.falcon_record.specs.Columns.{estimatorColumns, shownColumns, silenceColumns}
+use Rattle.relay_batt.specs.Numbers.{estimatorNumbers, stateNumbers, silenceNumbers, batteryNumbers}
 use Rattle.columns.proofs.Writing.{put-three}
 use borrow.Author.Needs.{needs}
 use Rattle.falcon_record.proofs.battery_numbers.Statement.{statement}
@@ -20,8 +20,8 @@ put-numbers-requires c κs = search needs
 slice-aggregate-put-numbers-3 : tie.Need-slice-aggregate-put-numbers-3
 slice-aggregate-put-numbers-3 c = search needs
 
-shown-numbers-requires : tie.Need-shown-numbers-requires
-shown-numbers-requires c κs = search needs
+state-numbers-requires : tie.Need-state-numbers-requires
+state-numbers-requires c κs = search needs
 
 slice-aggregate-put-numbers-4 : tie.Need-slice-aggregate-put-numbers-4
 slice-aggregate-put-numbers-4 c = search needs
@@ -42,9 +42,9 @@ put-numbers-requires-3 : tie.Need-put-numbers-requires-3
 put-numbers-requires-3 c κs = search needs
 
 returns : tie.Need-returns
-unfolding estimatorColumns shownColumns silenceColumns
+unfolding batteryNumbers estimatorNumbers stateNumbers silenceNumbers
 returns c =
-    put-three _ _ _ _ _ _ _ _ _ _ 9 18 (c .before .before .before .before .before .before .before .before .before .before .before .before .before .estimator-numbers .ensures) (c .before .before .before .before .before .before .before .before .shown-numbers .ensures) (c .before .before .before .silence-numbers .ensures) refl refl refl (c .before .before .before .before .before .before .before .before .before .before .before .put-numbers .ensures) (c .before .before .before .before .before .before .put-numbers2 .ensures) (c .before .put-numbers3 .ensures)
+    put-three _ _ _ _ _ _ _ _ _ _ 9 18 (c .before .before .before .before .before .before .before .before .before .before .before .before .before .estimator-numbers .ensures) (c .before .before .before .before .before .before .before .before .state-numbers .ensures) (c .before .before .before .silence-numbers .ensures) refl refl refl (c .before .before .before .before .before .before .before .before .before .before .before .put-numbers .ensures) (c .before .before .before .before .before .before .put-numbers2 .ensures) (c .before .put-numbers3 .ensures)
 
 pub battery-numbers-spec : {M : Type 1} → statement M
 battery-numbers-spec =
@@ -55,7 +55,7 @@ battery-numbers-spec =
     slice-aggregate-put-numbers-2
     put-numbers-requires
     slice-aggregate-put-numbers-3
-    shown-numbers-requires
+    state-numbers-requires
     slice-aggregate-put-numbers-4
     put-numbers-requires-2
     slice-aggregate-put-numbers-5

@@ -21,12 +21,12 @@ to-bits-requires-5 c κs = search needs
 to-bits-requires-6 : tie.Need-to-bits-requires-6
 to-bits-requires-6 c κs = search needs
 
-number-requires : tie.Need-number-requires
-number-requires c κs = search needs
+flag-number-requires : tie.Need-flag-number-requires
+flag-number-requires c κs = search needs
 
 returns : tie.Need-returns
 unfolding configColumns
-returns c = simp (c .number .ensures, c .before .to-bits6 .ensures, c .before .before .to-bits5 .ensures, c .before .before .before .to-bits4 .ensures, c .before .before .before .before .to-bits3 .ensures, c .before .before .before .before .before .to-bits2 .ensures, c .before .before .before .before .before .before .to-bits .ensures)
+returns c = simp (c .flag-number .ensures, c .before .to-bits6 .ensures, c .before .before .to-bits5 .ensures, c .before .before .before .to-bits4 .ensures, c .before .before .before .before .to-bits3 .ensures, c .before .before .before .before .before .to-bits2 .ensures, c .before .before .before .before .before .before .to-bits .ensures)
 
 pub config-numbers-spec : {M : Type 1} → statement M
 config-numbers-spec =
@@ -38,5 +38,5 @@ config-numbers-spec =
     to-bits-requires-4
     to-bits-requires-5
     to-bits-requires-6
-    number-requires
+    flag-number-requires
     returns)

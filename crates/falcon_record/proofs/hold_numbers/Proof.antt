@@ -9,11 +9,11 @@ to-bits-requires c κs = search needs
 to-bits-requires-2 : tie.Need-to-bits-requires-2
 to-bits-requires-2 c κs = search needs
 
-number-requires : tie.Need-number-requires
-number-requires c κs = search needs
+flag-number-requires : tie.Need-flag-number-requires
+flag-number-requires c κs = search needs
 
-number-requires-2 : tie.Need-number-requires-2
-number-requires-2 c κs = search needs
+flag-number-requires-2 : tie.Need-flag-number-requires-2
+flag-number-requires-2 c κs = search needs
 
 to-bits-requires-3 : tie.Need-to-bits-requires-3
 to-bits-requires-3 c κs = search needs
@@ -21,15 +21,15 @@ to-bits-requires-3 c κs = search needs
 to-bits-requires-4 : tie.Need-to-bits-requires-4
 to-bits-requires-4 c κs = search needs
 
-number-requires-3 : tie.Need-number-requires-3
-number-requires-3 c κs = search needs
+flag-number-requires-3 : tie.Need-flag-number-requires-3
+flag-number-requires-3 c κs = search needs
 
-number-requires-4 : tie.Need-number-requires-4
-number-requires-4 c κs = search needs
+flag-number-requires-4 : tie.Need-flag-number-requires-4
+flag-number-requires-4 c κs = search needs
 
 returns : tie.Need-returns
 unfolding holdColumns countColumns
-returns c = simp (c .number4 .ensures, c .before .number3 .ensures, c .before .before .to-bits4 .ensures, c .before .before .before .to-bits3 .ensures, c .before .before .before .before .number2 .ensures, c .before .before .before .before .before .number .ensures, c .before .before .before .before .before .before .to-bits2 .ensures, c .before .before .before .before .before .before .before .to-bits .ensures)
+returns c = simp (c .flag-number4 .ensures, c .before .flag-number3 .ensures, c .before .before .to-bits4 .ensures, c .before .before .before .to-bits3 .ensures, c .before .before .before .before .flag-number2 .ensures, c .before .before .before .before .before .flag-number .ensures, c .before .before .before .before .before .before .to-bits2 .ensures, c .before .before .before .before .before .before .before .to-bits .ensures)
 
 pub hold-numbers-spec : {M : Type 1} → statement M
 hold-numbers-spec =
@@ -37,10 +37,10 @@ hold-numbers-spec =
     (tie.spec
     to-bits-requires
     to-bits-requires-2
-    number-requires
-    number-requires-2
+    flag-number-requires
+    flag-number-requires-2
     to-bits-requires-3
     to-bits-requires-4
-    number-requires-3
-    number-requires-4
+    flag-number-requires-3
+    flag-number-requires-4
     returns)

@@ -1,7 +1,8 @@
 use mathlib.Core.Path.{refl}
 use Rattle.falcon_totals.specs.Totals.{totalsNumbers}
-use Rattle.falcon_record.specs.Columns.{configColumns, checkColumns, estimatorColumns, shownColumns, silenceColumns, holdColumns, countColumns, useColumns, scalarColumns}
+use Rattle.falcon_record.specs.Columns.{configColumns, checkColumns, holdColumns, countColumns, useColumns, scalarColumns}
 use Rattle.columns.proofs.Writing.{put-three}
+use Rattle.relay_batt.specs.Numbers.{estimatorNumbers, stateNumbers, silenceNumbers, batteryNumbers}
 use borrow.Author.Needs.{needs}
 use Rattle.falcon_record.proofs.scalar_numbers.Statement.{statement}
 use Rattle.falcon_record.proofs.scalar_numbers.Tie as tie
@@ -46,7 +47,7 @@ put-numbers-requires-3 : tie.Need-put-numbers-requires-3
 put-numbers-requires-3 c κs = search needs
 
 returns : tie.Need-returns
-unfolding scalarColumns configColumns checkColumns estimatorColumns shownColumns silenceColumns holdColumns countColumns totalsNumbers useColumns
+unfolding scalarColumns configColumns checkColumns batteryNumbers estimatorNumbers stateNumbers silenceNumbers holdColumns countColumns totalsNumbers useColumns
 returns c =
     put-three _ _ _ _ _ _ _ _ _ _ 12 33 (c .before .before .before .before .before .before .before .before .before .before .before .before .before .opening-numbers .ensures) (c .before .before .before .before .before .before .before .before .battery-numbers .ensures) (c .before .before .before .flown-numbers .ensures) refl refl refl (c .before .before .before .before .before .before .before .before .before .before .before .put-numbers .ensures) (c .before .before .before .before .before .before .put-numbers2 .ensures) (c .before .put-numbers3 .ensures)
 

@@ -1,3 +1,4 @@
+use Rattle.relay_batt.specs.Numbers.{batteryBy}
 use Rattle.exports.specs.Batt.{batteryFrom}
 use borrow.Author.Needs.{needs}
 use Rattle.exports.proofs.batt.battery_from.Statement.{statement}
@@ -19,7 +20,7 @@ is-one-requires-2 : tie.Need-is-one-requires-2
 is-one-requires-2 c κs = search needs
 
 returns : tie.Need-returns
-unfolding batteryFrom
+unfolding batteryFrom batteryBy
 returns c = simp (c .is-one2 .ensures, c .before .is-one .ensures, c .before .before .float .ensures, c .before .before .before .state-from .ensures, c .before .before .before .before .estimator-from .ensures)
 
 pub battery-from-spec : {M : Type 1} → statement M

@@ -1,4 +1,5 @@
-use Rattle.exports.specs.Batt.{estimatorFrom}
+use Rattle.relay_batt.specs.Numbers.{estimatorBy}
+use Rattle.exports.specs.Batt.{latchFrom}
 use borrow.Author.Needs.{needs}
 use Rattle.exports.proofs.batt.estimator_from.Statement.{statement}
 use Rattle.exports.proofs.batt.estimator_from.Tie as tie
@@ -28,7 +29,7 @@ latch-from-requires-2 : tie.Need-latch-from-requires-2
 latch-from-requires-2 c κs = search needs
 
 returns : tie.Need-returns
-unfolding estimatorFrom
+unfolding estimatorBy latchFrom
 returns c = simp (c .latch-from2 .ensures, c .before .latch-from .ensures, c .before .before .is-one .ensures, c .before .before .before .float4 .ensures, c .before .before .before .before .float3 .ensures, c .before .before .before .before .before .float2 .ensures, c .before .before .before .before .before .before .float .ensures, c .before .before .before .before .before .before .before .config-from .ensures)
 
 pub estimator-from-spec : {M : Type 1} → statement M

@@ -1,4 +1,4 @@
-use Rattle.exports.specs.Batt.{stateFrom}
+use Rattle.relay_batt.specs.Numbers.{stateBy}
 use borrow.Author.Needs.{needs}
 use Rattle.exports.proofs.batt.state_from.Statement.{statement}
 use Rattle.exports.proofs.batt.state_from.Tie as tie
@@ -31,7 +31,7 @@ is-one-requires-3 : tie.Need-is-one-requires-3
 is-one-requires-3 c κs = search needs
 
 returns : tie.Need-returns
-unfolding stateFrom
+unfolding stateBy
 returns c = simp (c .is-one3 .ensures, c .before .is-one2 .ensures, c .before .before .is-one .ensures, c .before .before .before .float6 .ensures, c .before .before .before .before .float5 .ensures, c .before .before .before .before .before .float4 .ensures, c .before .before .before .before .before .before .float3 .ensures, c .before .before .before .before .before .before .before .float2 .ensures, c .before .before .before .before .before .before .before .before .float .ensures)
 
 pub state-from-spec : {M : Type 1} → statement M

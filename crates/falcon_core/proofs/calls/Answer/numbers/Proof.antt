@@ -3,7 +3,7 @@ use Prim.Native.Nat.{ℕ}
 use mathlib.Core.Bool.{Bool}
 use mathlib.Core.List.{[], _∷_}
 use mathlib.Core.Path.{_≡_}
-use lib.Ieee.{binary32, toBits}
+use Rattle.relay_math.specs.Small.{flag, bits}
 use Rattle.relay_fsm.specs.Mode.{modeNumber}
 use Rattle.relay_preflight.specs.Verdict.{blockerNumber}
 use Rattle.falcon_guidance.specs.declared.state.Point.{Point}
@@ -11,7 +11,7 @@ use Rattle.falcon_flight.specs.declared.tick.TickAnswer.{TickAnswer}
 use Rattle.falcon_flight.specs.declared.tick.TickAnswer.the-variants.{MotorsOff, Setpoint}
 use Rattle.falcon_core.specs.declared.calls.Answer.{Answer}
 use Rattle.falcon_core.specs.declared.calls.Output.the-variants.{Nothing, Ticks, Totals, Record}
-use Rattle.falcon_core.specs.Calls.{flag, numbersOf}
+use Rattle.falcon_core.specs.Calls.{numbersOf}
 use borrow.Author.Needs.{needs}
 use Rattle.falcon_core.proofs.calls.Answer.numbers.Statement.{statement}
 use Rattle.falcon_core.proofs.calls.Answer.numbers.Tie as tie
@@ -40,11 +40,11 @@ enum-told-4 c = search needs
 enum-known-answer : tie.Need-enum-known-answer
 enum-known-answer c = search needs
 
-number-requires-3 : tie.Need-number-requires-3
-number-requires-3 c κs = search needs
+flag-number-requires : tie.Need-flag-number-requires
+flag-number-requires c κs = search needs
 
-number-requires-4 : tie.Need-number-requires-4
-number-requires-4 c κs = search needs
+flag-number-requires-2 : tie.Need-flag-number-requires-2
+flag-number-requires-2 c κs = search needs
 
 to-bits-requires : tie.Need-to-bits-requires
 to-bits-requires c κs = search needs
@@ -80,9 +80,9 @@ module _ (a : Answer) {m b : ℕ} (mode : m ≡ modeNumber (a .mode)) (verdict :
       → t ≡ Setpoint p landing rearm
       → l ≡ flag landing
       → r ≡ flag rearm
-      → x ≡ toBits binary32 (p .x)
-      → y ≡ toBits binary32 (p .y)
-      → z ≡ toBits binary32 (p .z)
+      → x ≡ bits (p .x)
+      → y ≡ bits (p .y)
+      → z ≡ bits (p .z)
       → (a .refusal ∷ m ∷ l ∷ 0 ∷ r ∷ x ∷ y ∷ z ∷ a .outstanding ∷ b ∷ []) ≡ numbersOf a
   unfolding numbersOf
   setpoint t p landing rearm output at l r x y z = simp (output, at, l, r, x, y, z, mode, verdict)
@@ -100,7 +100,7 @@ returns-4 : tie.Need-returns-4
 returns-4 c = motors-off (c .before .before .before .before .before .before .before .args .self) (c .before .before .before .before .before .before .number .ensures) (c .before .before .before .before .before .number2 .ensures) _ (c .before .before .before .output .given .1) (c .enum-told4 .given .1)
 
 returns-5 : tie.Need-returns-5
-returns-5 c = setpoint (c .before .before .before .before .before .before .before .before .before .before .before .before .before .args .self) (c .before .before .before .before .before .before .before .before .before .before .before .before .number .ensures) (c .before .before .before .before .before .before .before .before .before .before .before .number2 .ensures) _ _ _ _ (c .before .before .before .before .before .before .before .before .before .output .given .1) (c .before .before .before .before .before .before .answer .given .1) (c .before .before .before .before .number3 .ensures) (c .before .before .before .number4 .ensures) (c .before .before .to-bits .ensures) (c .before .to-bits2 .ensures) (c .to-bits3 .ensures)
+returns-5 c = setpoint (c .before .before .before .before .before .before .before .before .before .before .before .before .before .args .self) (c .before .before .before .before .before .before .before .before .before .before .before .before .number .ensures) (c .before .before .before .before .before .before .before .before .before .before .before .number2 .ensures) _ _ _ _ (c .before .before .before .before .before .before .before .before .before .output .given .1) (c .before .before .before .before .before .before .answer .given .1) (c .before .before .before .before .flag-number .ensures) (c .before .before .before .flag-number2 .ensures) (c .before .before .to-bits .ensures) (c .before .to-bits2 .ensures) (c .to-bits3 .ensures)
 
 pub numbers-spec : {M : Type 1} → statement M
 numbers-spec =
@@ -114,8 +114,8 @@ numbers-spec =
     enum-known-output
     enum-told-4
     enum-known-answer
-    number-requires-3
-    number-requires-4
+    flag-number-requires
+    flag-number-requires-2
     to-bits-requires
     to-bits-requires-2
     to-bits-requires-3

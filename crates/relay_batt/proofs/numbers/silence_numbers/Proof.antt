@@ -1,7 +1,7 @@
-use Rattle.exports.specs.Batt.{silenceNumbers}
+use Rattle.relay_batt.specs.Numbers.{silenceNumbers}
 use borrow.Author.Needs.{needs}
-use Rattle.exports.proofs.batt.silence_numbers.Statement.{statement}
-use Rattle.exports.proofs.batt.silence_numbers.Tie as tie
+use Rattle.relay_batt.proofs.numbers.silence_numbers.Statement.{statement}
+use Rattle.relay_batt.proofs.numbers.silence_numbers.Tie as tie
 
 to-bits-requires : tie.Need-to-bits-requires
 to-bits-requires c κs = search needs
