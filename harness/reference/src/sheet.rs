@@ -2,7 +2,6 @@
 
 use crate::due::{report, tick, Due};
 use crate::falcon_core::{CoreInputs, CoreOutputs, FlightBackend, FlightCore, FlightSupervisor, HoldRegime, KeepoutZone, NavState};
-use crate::falcon_core::{MAX_KEEPOUT_ZONES, MAX_WAYPOINTS};
 use crate::relay_fsm::{Event, Mode};
 use crate::relay_preflight::{CheckId, CheckTable};
 use crate::stand_ins::relay_calib::CalParams;
@@ -19,8 +18,11 @@ pub const ANSWER_FIELDS: usize = 10;
 pub const TOTALS: usize = 9;
 /// Fields of the answer to an accepted line of kind 7: the totals stand behind the ordinary fields.
 pub const TOTALS_ANSWER: usize = ANSWER_FIELDS + TOTALS;
-/// Columns of a record, which are those of a line of kind 9 (docs/RECORD.md).
-pub const RECORD: usize = 135;
+/// Places of a record for points, of three columns each, and for zones, of four: the record's own, whatever the Rust has room for.
+const POINT_PLACES: usize = 16;
+const ZONE_PLACES: usize = 8;
+/// Columns of a record, which are those of a line of kind 9 (docs/RECORD.md): 55 before the first point.
+pub const RECORD: usize = 55 + 3 * POINT_PLACES + 4 * ZONE_PLACES;
 /// Fields of the widest answer: an accepted line of kind 8 has the record behind the ordinary fields.
 pub const WIDEST_ANSWER: usize = ANSWER_FIELDS + RECORD;
 /// Every NaN of an answer.
@@ -437,11 +439,6 @@ impl Columns<'_> {
     fn floats(&mut self, floats: &[f32]) {
         floats.iter().for_each(|&x| self.number(answer_bits(x)));
     }
-
-    /// Places that nothing is kept in.
-    fn unused(&mut self, columns: usize) {
-        (0..columns).for_each(|_| self.number(0));
-    }
 }
 
 /// The record: the supervisor's own fields and what the Rust does not keep, in the order of docs/RECORD.md. Each field holds what the Rattle state
@@ -486,13 +483,14 @@ fn write_record(c: &mut Columns, s: &FlightSupervisor, low_volts: f32, totals: &
     c.number(s.wp_index as u32);
     c.number(s.zone_count as u32);
     let (points, zones) = (&s.waypoints[..s.wp_count], &s.zones[..s.zone_count]);
-    points.iter().for_each(|point| c.floats(point));
-    c.unused(3 * (MAX_WAYPOINTS - s.wp_count));
-    for zone in zones {
-        c.floats(&zone.center);
-        c.floats(&[zone.radius]);
+    for i in 0..POINT_PLACES {
+        c.floats(points.get(i).unwrap_or(&[0.0; 3]));
     }
-    c.unused(4 * (MAX_KEEPOUT_ZONES - s.zone_count));
+    for i in 0..ZONE_PLACES {
+        let (center, radius) = zones.get(i).map_or(([0.0; 3], 0.0), |zone| (zone.center, zone.radius));
+        c.floats(&center);
+        c.floats(&[radius]);
+    }
 }
 
 /// The supervisor of an opening. Without the calibration flag `set_calibration` is not called: the first tick then reads the flag.

@@ -16,12 +16,7 @@ fn tick_at(i: u32) -> Tick {
     let p = [NORTH[(i % 16) as usize], EAST[(i / 16 % 8) as usize], -10.0];
     Tick {
         dt: 0.02,
-        core: CoreInputs {
-            nav: NavState { p, v: [0.5, -0.25, 0.0], tilt: 0.1 },
-            uncertainty: 0.01,
-            motor: 0.6,
-            ..CoreInputs::default()
-        },
+        core: CoreInputs { nav: NavState { p, v: [0.5, -0.25, 0.0], tilt: 0.1 }, uncertainty: 0.01, motor: 0.6, ..CoreInputs::default() },
         rpm: true,
         volts: Some(15.2),
         amps: Some(12.0),
