@@ -1,6 +1,6 @@
 # Prints a day in words: each line of the sheet (file `sheet`) with its answer (standard input), both as docs/SHEET.md says, and a record by the table
 # of its columns (file `record`, which is docs/RECORD.md).
-# Positions are metres north, east and up of the origin; the time is the sum of the ticks' dt since the last opening.
+# Positions are metres north, east and up of the origin, in a record down as its columns are; the time is the sum of the ticks' dt since the last opening.
 
 BEGIN {
     read_columns()

@@ -3,11 +3,11 @@ use Prim.Native.Nat.{ℕ}
 use native.Mathlib.Omega.{arith}
 use mathlib.Core.List.{_++_}
 use mathlib.Core.Option.{Option, some}
-use mathlib.Core.Path.{_≡_, refl, sym, ap, _∙_, subst}
+use mathlib.Core.Path.{_≡_, sym, ap, _∙_, subst}
 use Rattle.falcon_core.specs.declared.supervisor.Supervisor.{Supervisor}
 use Rattle.falcon_core.specs.declared.calls.Answered.{Answered}
 use Rattle.falcon_core.specs.declared.calls.Output.{Output}
-use Rattle.falcon_core.specs.Calls.{Request, Planning, plans, refusalOf, legsIn, afterOf, outputOf, acceptedOf, stepOf, numbersOf}
+use Rattle.falcon_core.specs.Calls.{Request, Planning, plans, refusalOf, stepOf, numbersOf}
 use Rattle.falcon_core.proofs.Answers.{step-accepted, Telling}
 use Rattle.requests.specs.ByLine.{extraOf, replyNumbers}
 use Rattle.requests.proofs.ToldLines.{told-numbers}

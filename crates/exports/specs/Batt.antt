@@ -5,7 +5,7 @@ use mathlib.Core.List.{List, [], _∷_, _++_}
 use lib.Dec.{eqb, ltb}
 use lib.ListN.{length, getD}
 use lib.Seq.{sets}
-use lib.Ieee.{Float, binary32, ofBits, toBits}
+use lib.Ieee.{binary32, ofBits}
 use Rattle.relay_batt.specs.declared.config.BattConfig.{BattConfig}
 use Rattle.relay_batt.specs.declared.latch.TripLatch.{TripLatch}
 use Rattle.relay_batt.specs.declared.battery.Battery.{Battery}

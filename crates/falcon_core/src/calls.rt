@@ -28,7 +28,7 @@ use relay_preflight::CheckTable;
 use relay_preflight::TableVerdict;
 use relay_preflight::arm_check_table;
 
-// What an answer holds beside the mode and the checks: nothing, a tick's answer, the totals of the state, or the whole of it.
+// What an answer tells beside the mode and the checks: nothing, what a tick answers, or of the state after the call its totals or the whole.
 pub enum Output {
     Nothing,
     Ticks(TickAnswer),
@@ -468,7 +468,7 @@ impl Supervisor {
         told(self, Output::Totals)
     }
 
-    // The state, which the answer has.
+    // The whole state, which is the answer's.
     pub fn save(self) -> Answered
         ensures { λ r. ⌜ r ≡ stepOf self (plans saves) ⌝ }
     {

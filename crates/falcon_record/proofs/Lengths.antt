@@ -24,18 +24,15 @@ pub length-point : (p : Point) → length (pointColumns p) ≡ pointNumbers
 unfolding pointColumns
 length-point p = refl
 
-pub length-plain : (z : Zone) → length (zoneColumns false 0 z) ≡ zoneNumbers
+-- a zone without a top and with one
+pub length-topped : (tops : Bool) (top : ℕ) (z : Zone) → length (zoneColumns tops top z) ≡ cond tops (zoneNumbers + 1) zoneNumbers
 unfolding zoneColumns
-length-plain z = refl
-
-zone-by : (tops : Bool) (top : ℕ) (z : Zone) → length (zoneColumns tops top z) ≡ cond tops (zoneNumbers + 1) zoneNumbers
-unfolding zoneColumns
-zone-by true top z = refl
-zone-by false top z = refl
+length-topped true top z = refl
+length-topped false top z = refl
 
 pub length-zone : (form : Form) (top : ℕ) (z : Zone) → length (zoneColumns (form .«has_tops») top z) ≡ zoneWidth form
 unfolding zoneWidth
-length-zone form top z = zone-by (form .«has_tops») top z
+length-zone form top z = length-topped (form .«has_tops») top z
 
 pub length-points : (form : Form) (s : Supervisor) → length (pointsColumns form s) ≡ pointNumbers * form .places
 unfolding pointsColumns

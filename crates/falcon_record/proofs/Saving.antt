@@ -5,7 +5,7 @@ use mathlib.Core.Path.{_≡_, refl, sym, ap, _∙_}
 use mathlib.Core.List.{List, [], _++_, append-nil}
 use borrow.Author.Tests.{lt-ltb, le-ltb, ne-eqb}
 use lib.ListN.{length}
-use Rattle.columns.specs.Line.{over, putOver}
+use Rattle.columns.specs.Line.{putOver}
 use Rattle.columns.proofs.Writing.{put-behind}
 use Rattle.falcon_core.specs.declared.supervisor.Supervisor.{Supervisor}
 use Rattle.falcon_core.specs.Calls.{plans, saves, answerOf, refusedOf, stepOf}
@@ -32,7 +32,7 @@ unfolding fieldsOf laterAt zonesAt zoneWidth
 record-fits = omega arith
 
 module _ (s : Supervisor) (a : List ℕ) where
-  -- "a refusal where it is too short": nothing is put
+  -- too short: nothing is put
   pub short-saved : length a < recordRoom → (refusedOf s shortBuffer ≡ saveStep s a) × (a ≡ savedOver s a)
   unfolding saveStep savedOver refusedOf answerOf
   short-saved h = let short = lt-ltb (length a) recordRoom h in (simp short, simp short)

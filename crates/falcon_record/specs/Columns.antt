@@ -55,11 +55,12 @@ holdColumns h =
 unfoldable pub countColumns : FlightSupervisor → List ℕ
 countColumns f = f .counts .«runaway_count» ∷ f .counts .«wind_count» ∷ flag (f .«rtl_latched») ∷ flag (f .«motors_were_off») ∷ []
 
--- 53 to 55: point count, leg, zone count; "Totals are part of it" stand before them, 44 to 52
+-- 53 to 55: point count, leg, zone count
 unfoldable pub useColumns : FlightSupervisor → List ℕ
 useColumns f = f .mission .«wp_count» ∷ f .mission .«wp_index» ∷ f .zones .«zone_count» ∷ []
 
--- the columns before the first point; 13 to 33 are the battery's: the estimator, the state shown from 22 on, the silence from 31 on
+-- the columns before the first point. 13 to 33 are the battery's: the estimator, the state shown from 22 on, the silence from 31 on; 44 to 52 are the totals:
+-- "Totals are part of it"
 unfoldable pub scalarColumns : Supervisor → List ℕ
 scalarColumns s =
     let f = s .flight in

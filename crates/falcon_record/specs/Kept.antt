@@ -1,4 +1,4 @@
--- What the columns rest on beside themselves: true of every state that a list of calls leads to, where every lent float is an f32 value.
+-- What the columns rest on beside themselves. `Kept` is true of every state that a list of calls leads to, where every lent float is an f32 value.
 use Prim.Native.Nat.{_≤_, _<_, _^_}
 use mathlib.Core.Path.{_≡_}
 use mathlib.Core.Bool.{true, false}

@@ -3,7 +3,6 @@ use Prim.Native.Nat.{ℕ}
 use mathlib.Core.List.{List, _++_}
 use mathlib.Core.Path.{_≡_}
 use lib.ListN.{getD}
-use lib.Ieee.{ofBits, toBits}
 use Rattle.relay_math.proofs.Laws.{read-back, flag-back}
 use Rattle.relay_batt.specs.declared.battery.Battery.{Battery}
 use Rattle.relay_batt.specs.Fits.{FitBattery}

@@ -19,8 +19,8 @@ use Rattle.falcon_record.proofs.Saving.{columns-count}
 use Rattle.columns.specs.declared.field.FieldRead.{FieldRead}
 use Rattle.columns.specs.declared.field.FieldRead.the-variants.{Number}
 use Rattle.columns.specs.Field.{fieldWidth, kindOf}
-use Rattle.columns.specs.Line.{lineOf}
-use Rattle.columns.proofs.Writing.{length-line}
+use Rattle.columns.specs.Line.{lineOf, over}
+use Rattle.columns.proofs.Writing.{length-line, line-append}
 use Rattle.requests.specs.Kinds.{Asked, asks, answeredBy, totalsKind, savesKind}
 use Rattle.requests.specs.Parse.{askedLine}
 use Rattle.requests.specs.ByLine.{totalsAnswer, recordNeed, needFields, needOf, lineStep, extraOf, replyNumbers, replyOf, bufferAfter}
@@ -62,19 +62,29 @@ module _ (s : Supervisor) (p : Planning) (o : Output) (t : Telling p o) (e : ref
       let tells : a .answer .output ≡ o = rw (step-accepted s (plans p) e) (told-output s p o t) in
       reply-extra a o tells ∙ ap (λ (u : Supervisor). numbersOf (a .answer) ++ extraOf u o) (told-keeps s p o t)
 
+  -- what it tells, as a line, behind its ten fields; behind that the buffer is as it was
+  pub told-over :
+      (line out : List ℕ) →
+      askedLine line ≡ asks (plans p) →
+      needOf line ≤ length out →
+      bufferAfter s line out ≡ over (lineOf (numbersOf (stepOf s (plans p) .answer)) ++ lineOf (extraOf s o)) out
+  unfolding replyOf
+  told-over line out q h =
+      let ten : List ℕ = numbersOf (stepOf s (plans p) .answer) in
+      let is : replyOf (answeredBy s (askedLine line)) ≡ lineOf ten ++ lineOf (extraOf s o) = ap (λ (k : Asked). replyOf (answeredBy s k)) q ∙ ap lineOf told-numbers ∙ line-append ten (extraOf s o) in
+      sym (full-buffer s line out h) ∙ ap (λ (l : List ℕ). over l out) is
+
   told-buffer :
       (n : ℕ) (line out : List ℕ) →
       length (extraOf s o) ≡ n →
       askedLine line ≡ asks (plans p) →
       needOf line ≤ length out →
-      bufferAfter s line out ≡ lineOf (numbersOf (stepOf s (plans p) .answer) ++ extraOf s o) ++ drop (fieldWidth * (answerFields + n)) out
-  unfolding replyOf
+      bufferAfter s line out ≡ (lineOf (numbersOf (stepOf s (plans p) .answer)) ++ lineOf (extraOf s o)) ++ drop (fieldWidth * (answerFields + n)) out
   told-buffer n line out wide q h =
-      let a : Answered = stepOf s (plans p) in
-      let ns : List ℕ = numbersOf (a .answer) ++ extraOf s o in
-      let is : replyOf (answeredBy s (askedLine line)) ≡ lineOf ns = ap (λ (k : Asked). replyOf (answeredBy s k)) q ∙ ap lineOf told-numbers in
-      let long : length (lineOf ns) ≡ fieldWidth * (answerFields + n) = omega (arith, length-line ns, length-append (numbersOf (a .answer)) (extraOf s o), numbers-count (a .answer)) in
-      sym (full-buffer s line out h) ∙ ap (λ (l : List ℕ). l ++ drop (length l) out) is ∙ ap (λ (m : ℕ). lineOf ns ++ drop m out) long
+      let a = stepOf s (plans p) .answer in
+      let front : List ℕ = lineOf (numbersOf a) ++ lineOf (extraOf s o) in
+      let long : length front ≡ fieldWidth * (answerFields + n) = length-append (lineOf (numbersOf a)) (lineOf (extraOf s o)) ∙ omega (arith, length-line (numbersOf a), length-line (extraOf s o), numbers-count a) in
+      told-over line out q h ∙ ap (λ (m : ℕ). front ++ drop m out) long
 
 -- "the ordinary ten fields and then the nine totals"; the bytes behind the 209 are as they were
 pub totals-buffer :
@@ -82,16 +92,16 @@ pub totals-buffer :
     refusalOf s (plans totals) ≡ 0 →
     askedLine line ≡ asks (plans totals) →
     needOf line ≤ length out →
-    bufferAfter s line out ≡ lineOf (numbersOf (stepOf s (plans totals) .answer) ++ totalsNumbers (s .totals)) ++ drop (fieldWidth * totalsAnswer) out
+    bufferAfter s line out ≡ (lineOf (numbersOf (stepOf s (plans totals) .answer)) ++ lineOf (totalsNumbers (s .totals))) ++ drop (fieldWidth * totalsAnswer) out
 unfolding extraOf totalsNumbers
 totals-buffer s line out e q h = told-buffer s totals Totals tells-totals e _ line out refl q h
 
--- "the columns of a line of kind 9, on the same line after its ordinary answer"; "Bytes after it are untouched"
+-- "the columns of a line of kind 9, on the same line after its ordinary answer", and so that line as it stands; "Bytes after it are untouched"
 pub record-buffer :
     (s : Supervisor) (line out : List ℕ) →
     refusalOf s (plans saves) ≡ 0 →
     askedLine line ≡ asks (plans saves) →
     needOf line ≤ length out →
-    bufferAfter s line out ≡ lineOf (numbersOf (stepOf s (plans saves) .answer) ++ columnsOf s) ++ drop (fieldWidth * (answerFields + recordFields)) out
+    bufferAfter s line out ≡ (lineOf (numbersOf (stepOf s (plans saves) .answer)) ++ lineOf (columnsOf s)) ++ drop (fieldWidth * (answerFields + recordFields)) out
 unfolding extraOf
 record-buffer s line out e q h = told-buffer s saves Record tells-state e recordFields line out (columns-count s) q h

@@ -41,6 +41,10 @@ needFields Bad = answerFields
 abbrev pub mostNeeded : ℕ
 mostNeeded = recordNeed
 
+-- the places of an array that takes a line's numbers and then its answer's: no line has more fields than the longest answer needs
+abbrev pub numberPlaces : ℕ
+numberPlaces = mostNeeded
+
 -- the bytes that a line's answer buffer must have
 unfoldable pub needOf : List ℕ → ℕ
 needOf line = fieldWidth * needFields (kindOf line)

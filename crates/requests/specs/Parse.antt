@@ -6,7 +6,6 @@ use Rattle.columns.specs.declared.field.FieldRead.the-variants.{Number, Bad}
 use Rattle.columns.specs.Field.{kindOf}
 use Rattle.columns.specs.Line.{Reading, read, broken, lineFields, readWithin, numbersOver}
 use Rattle.falcon_core.specs.Refusals.{notALine}
-use Rattle.falcon_record.specs.Saved.{recordRoom}
 use Rattle.requests.specs.Kinds.{Asked, refuses, requestOf}
 
 -- what a line asks once it is read
@@ -22,10 +21,6 @@ limitFields Bad = lineFields
 -- the most fields that a line of any kind may have
 abbrev pub mostFields : ℕ
 mostFields = lineFields
-
--- the places of an array that takes a line's numbers and then its answer's: those of a record too
-abbrev pub numberPlaces : ℕ
-numberPlaces = recordRoom
 
 -- what a line says
 unfoldable pub readingLine : List ℕ → Reading

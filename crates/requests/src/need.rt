@@ -10,7 +10,7 @@ use falcon_core::calls::Answer;
 use falcon_record::RECORD_ROOM;
 
 // The fields that an answer with the state needs: room for a record of every form that its line may have.
-const WITH_RECORD: usize = Answer::FIELDS + RECORD_ROOM;
+pub(crate) const WITH_RECORD: usize = Answer::FIELDS + RECORD_ROOM;
 
 // The bytes that the answer to a line of any kind needs at most.
 const MOST_NEED: usize = FIELD * WITH_RECORD;

@@ -5,23 +5,24 @@ ghost use lib.ListN.{length};
 ghost use Rattle.columns.specs.Field.{inRange, kindOf};
 ghost use Rattle.columns.specs.Line.{lengthOk};
 ghost use Rattle.requests.specs.Kinds.{Says};
-ghost use Rattle.requests.specs.Parse.{limitFields, mostFields, numberPlaces, askedLine, numbersAfter};
+ghost use Rattle.requests.specs.Parse.{limitFields, mostFields, askedLine, numbersAfter};
+ghost use Rattle.requests.specs.ByLine.{numberPlaces};
 use crate::kinds::Kind;
 use crate::kinds::OtherCall;
 use crate::kinds::kind_of;
+use crate::need::WITH_RECORD;
 use columns::field::FIELD;
 use columns::field::read_kind;
 use columns::line::LINE_FIELDS;
 use columns::line::LineRead;
 use columns::line::read_line;
 use falcon_core::calls::Answer;
-use falcon_record::RECORD_ROOM;
 
 // The most fields of a line of any kind.
 pub const MOST_FIELDS: usize = LINE_FIELDS;
 
-// The places of an array that takes a line's numbers and then its answer's: those of a record too.
-pub const NUMBER_PLACES: usize = RECORD_ROOM;
+// The places of an array that takes a line's numbers and then its answer's: as many as the longest answer needs.
+pub const NUMBER_PLACES: usize = WITH_RECORD;
 
 // The bytes that a line of every kind may have.
 const ORDINARY: usize = FIELD * LINE_FIELDS;

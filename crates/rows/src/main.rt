@@ -125,7 +125,7 @@ fn totals_buffers() {
     print_answer(opened(), line, &mut accepted);
 }
 
-// A line of kind 8: buffers of 110 and 1,869 bytes stay as they were, of 1,870 a refused answer takes 110, and of 1,873 an accepted one takes 1,595.
+// A line of kind 8: buffers of 110 and 1,869 bytes stay as they were, and of 1,870 a refused answer takes 110 and an accepted one 1,595.
 fn record_buffers() {
     let line = b"          8";
     let mut ordinary = [b'?'; 110];
@@ -134,7 +134,7 @@ fn record_buffers() {
     print_answer(Supervisor::new(), line, &mut short);
     let mut refused = [b'?'; 1870];
     print_answer(Supervisor::new(), line, &mut refused);
-    let mut accepted = [b'?'; 1873];
+    let mut accepted = [b'?'; 1870];
     print_answer(opened(), line, &mut accepted);
 }
 

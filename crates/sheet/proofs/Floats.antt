@@ -5,9 +5,7 @@ use native.Mathlib.Nat.{not-suc-le-zero, le-of-suc-le-suc}
 use mathlib.Core.Path.{_≡_, refl, sym, ap, _∙_}
 use mathlib.Core.List.{List, [], _∷_, _++_, map}
 use lib.ListN.{length, getD, take, drop, set, length-drop, length-map}
-use lib.Seq.{length-take-le, take-suc, take-append-seam}
-use Rattle.columns.specs.Field.{put}
-use Rattle.columns.proofs.Writing.{put-more}
+use lib.Seq.{length-take-le, take-append-seam}
 use Rattle.columns.proofs.LineTurns.{slice-take}
 use Rattle.requests.specs.Kinds.{listHead}
 

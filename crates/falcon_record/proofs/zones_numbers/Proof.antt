@@ -7,7 +7,7 @@ use Rattle.falcon_guidance.specs.State.{noZone, zoneNumbers, maxKeepoutZones}
 use Rattle.falcon_guidance.specs.Zones.{noPlace}
 use Rattle.falcon_record.specs.Columns.{placeIn, zoneColumns, zonesColumns}
 use Rattle.falcon_record.proofs.Stretch.{Stretched, stretch-first, stretch-next, stretches-all}
-use Rattle.falcon_record.proofs.Lengths.{length-plain}
+use Rattle.falcon_record.proofs.Lengths.{length-topped}
 use borrow.Author.Needs.{needs}
 use Rattle.falcon_record.proofs.zones_numbers.Statement.{statement}
 use Rattle.falcon_record.proofs.zones_numbers.Tie as tie
@@ -19,7 +19,7 @@ abbrev μ-loop : tie.MeasureT-loop
 μ-loop zs zones numbers₀ i₀ numbers i = maxKeepoutZones - i
 
 loop-holds : tie.Need-loop-holds Inv-loop μ-loop
-loop-holds c = stretch-first _ zoneNumbers (λ j. length-plain _) maxKeepoutZones _ refl
+loop-holds c = stretch-first _ zoneNumbers (λ j. length-topped false 0 _) maxKeepoutZones _ refl
 
 zone-in-requires : tie.Need-zone-in-requires Inv-loop μ-loop
 zone-in-requires c κs = search needs
@@ -48,7 +48,7 @@ loop-less c = search needs
 loop-again : tie.Need-loop-again Inv-loop μ-loop
 loop-again c =
     let l = c .before .before .before .before .before .before .before .loop in
-    rw (add-one (l .i)) (stretch-next _ zoneNumbers (λ j. length-plain _) maxKeepoutZones _ refl _ _ _ (l .i) (l .inv) (c .before .before .before .before .before .before .loop-test .taken)
+    rw (add-one (l .i)) (stretch-next _ zoneNumbers (λ j. length-topped false 0 _) maxKeepoutZones _ refl _ _ _ (l .i) (l .inv) (c .before .before .before .before .before .before .loop-test .taken)
     (c .before .before .before .zone-numbers .ensures ∙ ap (zoneColumns false 0) (c .before .before .before .before .before .zone-in .ensures))
     (c .before .put-numbers .ensures))
 

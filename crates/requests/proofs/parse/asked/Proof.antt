@@ -1,6 +1,6 @@
 use mathlib.Core.Path.{_≡_}
 use lib.ListN.{length}
-use Rattle.requests.specs.Parse.{numberPlaces}
+use Rattle.requests.specs.ByLine.{numberPlaces}
 use borrow.Author.Needs.{needs}
 use Rattle.requests.proofs.parse.asked.Statement.{statement}
 use Rattle.requests.proofs.parse.asked.Tie as tie

@@ -13,8 +13,8 @@ use Rattle.falcon_core.specs.Calls.{answerFields, flightStepOf}
 use Rattle.columns.specs.Field.{put}
 use Rattle.requests.specs.declared.kinds.Kind.{Kind}
 use Rattle.requests.specs.Kinds.{answeredBy, flightAsks, kindAsks, KindListed}
-use Rattle.requests.specs.Parse.{numberPlaces, askedLine}
-use Rattle.requests.specs.ByLine.{needOf}
+use Rattle.requests.specs.Parse.{askedLine}
+use Rattle.requests.specs.ByLine.{numberPlaces, needOf}
 use Rattle.sheet.specs.Entry.{Replied, FlightLeft}
 use Rattle.sheet.specs.Lines.{newline, whole}
 use Rattle.sheet.specs.Many.{afterLine, replyLine, EndsFitting}
