@@ -105,7 +105,7 @@ fn line_of(call: &str) -> Result<(Vec<u8>, bool), String> {
             }
         }
         "open" => {
-            numbers = vec![1, 0, 0, 0, bits("100")?, bits("10")?, bits("14")?, 0, 0, 0];
+            numbers = vec![1, 0, 0, 0, bits("100")?, bits("10")?, bits("21")?, 0, 0, 0];
             for w in &words {
                 let (key, value) = w.split_once('=').unwrap_or((w, "1"));
                 match key {
