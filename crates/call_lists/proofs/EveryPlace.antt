@@ -24,7 +24,7 @@ use Rattle.falcon_core.specs.SoundState.{soundOf, SoundFlight, FitFlight}
 use Rattle.falcon_core.proofs.Refused.{step-keeps}
 use Rattle.falcon_core.proofs.Invariant.{after-sound, unopened-sound}
 use Rattle.falcon_core.proofs.SoundTest.{sound-test}
-use Rattle.falcon_core.proofs.Battery.{FromOpening, after-from-opening, unopened-from-opening, sound-bounds}
+use Rattle.falcon_core.proofs.Battery.{OwnPack, after-pack, unopened-pack, sound-bounds}
 use Rattle.falcon_core.proofs.Due.{DueAirborne, after-due-airborne, due-unopened}
 use Rattle.falcon_core.proofs.Fits.{fits-step, fits-unopened}
 use Rattle.falcon_core.proofs.Numbers.{numbers-checks}
@@ -93,10 +93,13 @@ pub points-admissible :
     T (waypointAdmissibleOf (placeAt l .supervisor .flight .config) (getD (placeAt l .supervisor .waypoints) i nowhere))
 points-admissible l i h = sound-flight l .mission .places .fit i h
 
+-- the estimator's configuration is what the opening's volts give for the state's own cell count
+pub pack-place : (l : List Call) → OwnPack (placeAt l .supervisor .flight)
+pack-place l = every-place (λ (u : Supervisor). OwnPack (u .flight)) after-pack unopened-pack l
+
 -- "Bounds to be shown: charge 0..1, used 0..5000 mAh, estimated resistance 0.001..0.2"
 pub battery-bounds : (l : List Call) → InBounds (placeAt l .supervisor .flight .battery)
-battery-bounds l =
-    sound-bounds _ _ (every-place (λ (u : Supervisor). FromOpening (u .flight)) after-from-opening unopened-from-opening l) (sound-flight l .battery)
+battery-bounds l = sound-bounds _ _ (pack-place l) (sound-flight l .battery)
 
 -- a due report finds the mode airborne
 pub due-airborne : (l : List Call) → placeAt l .supervisor .«report_due» ≡ true → T (isAirborneOf (placeAt l .mode))

@@ -19,7 +19,6 @@ use Rattle.falcon_core.specs.Calls.{Request, plans, saves, answerOf, acceptedOf
 use Rattle.falcon_core.specs.Refusals.{shortBuffer}
 use Rattle.falcon_core.proofs.Answers.{step-accepted, in-sequence, tells-state, told-output}
 use Rattle.falcon_core.proofs.Refused.{accepted-passed, told-keeps}
-use Rattle.falcon_core.proofs.Battery.{FromOpening, after-from-opening, unopened-from-opening}
 use Rattle.falcon_record.specs.Form.{Form}
 use Rattle.falcon_record.specs.Columns.{columnsIn}
 use Rattle.falcon_record.specs.From.{recordFrom}
@@ -28,7 +27,7 @@ use Rattle.falcon_record.specs.Saved.{writtenForm, columnsOf, saveStep, savedOv
 use Rattle.falcon_record.proofs.Back.{record-back, columns-same}
 use Rattle.falcon_record.proofs.Forms.{line-back, carries}
 use Rattle.falcon_record.proofs.Saving.{record-fits}
-use Rattle.falcon_record.proofs.Reached.{after-wind, unopened-wind, from-pack, totals-below}
+use Rattle.falcon_record.proofs.Reached.{after-wind, unopened-wind, totals-below}
 use Rattle.requests.specs.Kinds.{Asked, refuses, asks, answeredBy}
 use Rattle.requests.specs.Parse.{askedLine}
 use Rattle.requests.specs.ByLine.{needOf, askedWith, lineStep, extraOf}
@@ -38,7 +37,7 @@ use Rattle.call_lists.specs.Records.{writtenBy, lentWith, ReadBack, Reco
 use Rattle.call_lists.proofs.CallSeen.{seen}
 use Rattle.call_lists.proofs.ToldSeen.{Told, told-seen}
 use Rattle.call_lists.proofs.PlaceHolds.{place-holding, start-holding}
-use Rattle.call_lists.proofs.EveryPlace.{every-place, sound-flight, fits-place}
+use Rattle.call_lists.proofs.EveryPlace.{every-place, sound-flight, pack-place, fits-place}
 
 -- ---- what the columns rest on, at every place
 
@@ -47,7 +46,7 @@ kept-place l e =
     record {
       fit = fits-place l e;
       sound = sound-flight l;
-      pack = from-pack _ (every-place (λ (u : Supervisor). FromOpening (u .flight)) after-from-opening unopened-from-opening l);
+      pack = pack-place l;
       wind-below = every-place (λ (u : Supervisor). u .flight .counts .«wind_count» < 2 ^ 32) after-wind unopened-wind l;
       totals-below = subst (λ (t : DayTotals). InRange (totalsNumbers t)) (sym (place-holding start l start-holding .totals-are)) (totals-below (placeAt l .counted));
     }

@@ -21,7 +21,7 @@ use Rattle.relay_preflight.specs.Check.{allChecks}
 use Rattle.relay_preflight.specs.Table.{bitOf, withBitOf, setOf, legacyPassedOf, failsOf, failingMaskOf, outstandingOf}
 use Rattle.relay_preflight.specs.Verdict.{firstIn, firstBlockerOf}
 use Rattle.relay_batt.specs.Battery.{openedOf, heardOf, updateOf, lostOf, runOf}
-use Rattle.relay_batt.specs.Config.{defaultOf, forPackOf, forOpeningVoltsOf, capacityOf, cellsOf}
+use Rattle.relay_batt.specs.Config.{defaultOf, forPackOf, capacityOf, cellsOf, perCellOf}
 use Rattle.relay_batt.specs.Curve.{sanitizeOf, knots, walk, tableOf, ocvSocCellOf}
 use Rattle.relay_batt.specs.Estimator.{noneOf, shownOf, newOf, resetOf, consumedOf, bigStepOf, blendOf, rEstOf, restOf, socCoulombOf, socOf, withAmpsOf, voltsOnlyOf, updateAmpsOf, updateVoltsOf}
 use Rattle.relay_batt.specs.Latch.{tripOf}
@@ -50,7 +50,7 @@ use Rattle.columns.specs.Line.{onto, before, fields, lengthOk, readWithin, line
 use Rattle.call_lists.specs.Lists.{callStep, acceptedRequest, placeAfter, nextPlace, placeFrom, answersFrom, start, calmFrom, ticksFrom}
 use Rattle.call_lists.specs.Lists.{Call, byValues, byLine, byArray, Place, latchOf}
 
--- home 0, fence 100, cruise 10, opening volts 14
+-- home 0, fence 100, cruise 10, opening volts 21
 opening : Call
 opening =
     byValues
@@ -59,7 +59,7 @@ opening =
       home = origin;
       «fence_radius» = ofBits binary32 0x42c8_0000;
       «cruise_alt» = ofBits binary32 0x4120_0000;
-      «low_batt_v» = ofBits binary32 0x4160_0000;
+      «low_batt_v» = ofBits binary32 0x41a8_0000;
       required = 0;
       passed = 0;
       «calibration_configured» = false;
@@ -84,7 +84,7 @@ tick tilt reading =
       reading = reading;
     }))
 
--- one volt for four cells
+-- one volt for six cells
 flat : Call
 flat = tick zerof (Volts (ofBits binary32 0x3f80_0000))
 
@@ -142,7 +142,7 @@ kind7 room = byLine (lineOf (7 ∷ [])) (replicate room 0)
 -- a breach at home: opened with fence -1, armed and taking off; the tick goes from Takeoff by Rtl to Land, a second one is refused, and its report follows
 breached : List Call
 breached =
-    line (1 ∷ 0 ∷ 0 ∷ 0 ∷ 3212836864 ∷ 1092616192 ∷ 1096810496 ∷ 0 ∷ 0 ∷ 0 ∷ [])
+    line (1 ∷ 0 ∷ 0 ∷ 0 ∷ 3212836864 ∷ 1092616192 ∷ 1101529088 ∷ 0 ∷ 0 ∷ 0 ∷ [])
     ∷ line (4 ∷ 0 ∷ 1 ∷ 1 ∷ [])
     ∷ line (4 ∷ 1 ∷ 1 ∷ 1 ∷ [])
     ∷ line (2 ∷ replicate 17 0)
@@ -194,7 +194,7 @@ saving =
 -- the columns of the state after the breach
 columned : List ℕ
 columned =
-    (9 ∷ 0 ∷ 0 ∷ 0 ∷ 3212836864 ∷ 1092616192 ∷ 1096810496 ∷ 4 ∷ 0 ∷ 0 ∷ 786659 ∷ 5 ∷ 0 ∷ 1019517862 ∷ [])
+    (9 ∷ 0 ∷ 0 ∷ 0 ∷ 3212836864 ∷ 1092616192 ∷ 1101529088 ∷ 6 ∷ 0 ∷ 0 ∷ 786659 ∷ 5 ∷ 0 ∷ 1019517862 ∷ [])
     ++ (replicate 27 0 ++ ((1 ∷ 0 ∷ 0 ∷ 0 ∷ 0 ∷ 0 ∷ 0 ∷ 1 ∷ 0 ∷ 0 ∷ 3 ∷ []) ++ replicate 83 0))
 
 -- the numbers answered
@@ -243,5 +243,5 @@ seen-in-lists :
     × (countsOf (placeFrom start breached .counted) ≡ 0 ∷ 0 ∷ 0 ∷ 0 ∷ 0 ∷ 1 ∷ 0 ∷ 0 ∷ 3 ∷ [])
     × (map replyNumbers (answersFrom (placeFrom start breached) saving) ≡ saved)
     × (savedOver (placeFrom start breached .supervisor) (replicate 161 7) ≡ columned ++ replicate 26 7)
-unfolding kind7 breached asked totalled noTotals countedOf totalsNumbers countOf countsOf totalsAfter aloneLine saving columned saved saveStep savedOver columnsOf columnsIn scalarColumns configColumns checkColumns batteryNumbers estimatorNumbers stateNumbers silenceNumbers holdColumns countColumns useColumns pointsColumns zonesColumns laterColumns pointColumns zoneColumns placed placeIn opening tick flat calmly tripped tilted quiet flying line worked answered answersFrom modes latches tumble final rootBy wholeRoot radicand dropped rounded ranged rootOf maxOf clampOf eventAt rowOf onOf allChecks bitOf withBitOf setOf legacyPassedOf failsOf failingMaskOf outstandingOf firstIn firstBlockerOf openedOf heardOf updateOf lostOf runOf defaultOf forOpeningVoltsOf forPackOf capacityOf cellsOf sanitizeOf knots walk tableOf ocvSocCellOf noneOf shownOf newOf resetOf consumedOf bigStepOf blendOf rEstOf restOf socCoulombOf socOf withAmpsOf voltsOnlyOf updateAmpsOf updateVoltsOf tripOf shapeRefusal sequenceRefusal stateRefusal refusalOf commandedBy startOf startPoints plannedOf flightAfter waypointsAfter afterOf outputOf answerOf refusedOf acceptedOf stepOf numbersOf clearedOf breachOf breachGives breachedOf tiltedOf runawayEnough runawayCounted runawayGives runawayOf gustyOf windEnough windCounted windGives windOf reportedOf lengthOf distanceOf horizSpeedOf brakePointOf enteredOf holdRestOf brakedOf leftOf keptOf heldOf heightOf highOf nearHomeOf nearGroundOf distance3Of arrivedOf milestoneGives legOf advancedOf milestoneOf waypointAdmissibleOf pointAtOf triedOf allAdmissibleOf storedOf loadedOf loadedPointsOf waypointAtOf legWaypointOf currentWaypointOf legsOf outsideGeofenceOf geofenceSaneOf navRowsOf integrityRowsOf readinessRowsOf updatePreflightOf escTelemetryOf landingOf setpointOf commandedOf stateOpenedOf unopened checkedOf poweredOf telemetryOf sensedOf afterBreach afterRunaway afterWind afterMilestone holdingOf answeredOf endedOf tickOf givenOf goalOf bearingOf alongOf perpOf obstructsOf threatensOf tangentOf urgencyOf ringOf deflectedOf aroundOf aroundAllOf avoidOf zoneAtOf zonesKeptOf storedZonesOf loadedZonesOf askedLine askedWith lineStep replyOf bufferAfter inRange digits fieldStart spaced readField column columns fieldOf put openingFrom openingLine readingFrom batteryOk tickFrom tickOk tickLine reportLine commandLine pointsLine zonesLine requestOf onto before fields lengthOk readWithin lineOf callStep acceptedRequest placeAfter nextPlace placeFrom start calmFrom ticksFrom add sub mul div neg lt eq le ne ofBits ofInt round units isNan size toBits kindOf needFields needOf extraOf replyNumbers limitFields readingLine ones
+unfolding kind7 breached asked totalled noTotals countedOf totalsNumbers countOf countsOf totalsAfter aloneLine saving columned saved saveStep savedOver columnsOf columnsIn scalarColumns configColumns checkColumns batteryNumbers estimatorNumbers stateNumbers silenceNumbers holdColumns countColumns useColumns pointsColumns zonesColumns laterColumns pointColumns zoneColumns placed placeIn opening tick flat calmly tripped tilted quiet flying line worked answered answersFrom modes latches tumble final rootBy wholeRoot radicand dropped rounded ranged rootOf maxOf clampOf eventAt rowOf onOf allChecks bitOf withBitOf setOf legacyPassedOf failsOf failingMaskOf outstandingOf firstIn firstBlockerOf openedOf heardOf updateOf lostOf runOf defaultOf forPackOf capacityOf cellsOf perCellOf sanitizeOf knots walk tableOf ocvSocCellOf noneOf shownOf newOf resetOf consumedOf bigStepOf blendOf rEstOf restOf socCoulombOf socOf withAmpsOf voltsOnlyOf updateAmpsOf updateVoltsOf tripOf shapeRefusal sequenceRefusal stateRefusal refusalOf commandedBy startOf startPoints plannedOf flightAfter waypointsAfter afterOf outputOf answerOf refusedOf acceptedOf stepOf numbersOf clearedOf breachOf breachGives breachedOf tiltedOf runawayEnough runawayCounted runawayGives runawayOf gustyOf windEnough windCounted windGives windOf reportedOf lengthOf distanceOf horizSpeedOf brakePointOf enteredOf holdRestOf brakedOf leftOf keptOf heldOf heightOf highOf nearHomeOf nearGroundOf distance3Of arrivedOf milestoneGives legOf advancedOf milestoneOf waypointAdmissibleOf pointAtOf triedOf allAdmissibleOf storedOf loadedOf loadedPointsOf waypointAtOf legWaypointOf currentWaypointOf legsOf outsideGeofenceOf geofenceSaneOf navRowsOf integrityRowsOf readinessRowsOf updatePreflightOf escTelemetryOf landingOf setpointOf commandedOf stateOpenedOf unopened checkedOf poweredOf telemetryOf sensedOf afterBreach afterRunaway afterWind afterMilestone holdingOf answeredOf endedOf tickOf givenOf goalOf bearingOf alongOf perpOf obstructsOf threatensOf tangentOf urgencyOf ringOf deflectedOf aroundOf aroundAllOf avoidOf zoneAtOf zonesKeptOf storedZonesOf loadedZonesOf askedLine askedWith lineStep replyOf bufferAfter inRange digits fieldStart spaced readField column columns fieldOf put openingFrom openingLine readingFrom batteryOk tickFrom tickOk tickLine reportLine commandLine pointsLine zonesLine requestOf onto before fields lengthOk readWithin lineOf callStep acceptedRequest placeAfter nextPlace placeFrom start calmFrom ticksFrom add sub mul div neg lt eq le ne ofBits ofInt round units isNan size toBits kindOf needFields needOf extraOf replyNumbers limitFields readingLine ones
 seen-in-lists = (refl, refl, refl, refl, refl, refl, refl, refl, refl, refl, refl)

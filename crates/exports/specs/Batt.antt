@@ -11,6 +11,7 @@ use Rattle.relay_batt.specs.declared.latch.TripLatch.{TripLatch}
 use Rattle.relay_batt.specs.declared.battery.Battery.{Battery}
 use Rattle.relay_batt.specs.declared.battery.Reading.{Reading}
 use Rattle.relay_batt.specs.declared.battery.Reading.the-variants.{Nothing, Volts, VoltsAmps}
+use Rattle.relay_batt.specs.Config.{forPackOf}
 use Rattle.relay_batt.specs.Battery.{openedOf, updateOf}
 use Rattle.relay_math.specs.Small.{bits}
 use Rattle.relay_batt.specs.Numbers.{batteryNumbers, batteryBy}
@@ -57,6 +58,10 @@ readingFrom kind volts amps =
 -- `Battery::new` by numbers
 unfoldable pub newFrom : List ℕ → Battery
 newFrom ns = openedOf (configFrom ns)
+
+-- `Battery::new` at an opening's volts, for so many cells
+unfoldable pub openedFor : ℕ → ℕ → Battery
+openedFor cells volts = openedOf (forPackOf cells (ofBits binary32 volts))
 
 -- `Battery::update` by numbers
 unfoldable pub updateFrom : List ℕ → ℕ → ℕ → ℕ → ℕ → Battery

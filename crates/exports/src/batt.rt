@@ -20,7 +20,7 @@ ghost use Prim.Native.Nat.{_≤_, _<_};
 ghost use lib.ListN.{length};
 ghost use lib.Seq.{sets};
 ghost use Rattle.relay_batt.specs.Numbers.{estimatorBy, stateBy};
-ghost use Rattle.exports.specs.Batt.{configFrom, latchFrom, behindPack, batteryFrom, readingFrom, newFrom, updateFrom};
+ghost use Rattle.exports.specs.Batt.{configFrom, latchFrom, behindPack, batteryFrom, readingFrom, newFrom, openedFor, updateFrom};
 ghost use Rattle.exports.specs.Batt.{size, configNumbers, packedNumbers, shortNumber, storedOf};
 
 // How many numbers a battery is.
@@ -168,6 +168,20 @@ pub extern "C" fn bartsemmo_battery_new(numbers: &mut [u32]) -> u32
         return 1;
     }
     let battery = Battery::new(config_from(numbers));
+    put_battery(numbers, battery);
+    0
+}
+
+// `Battery::new` for the built-in pack with so many cells, at an opening's volts. Answers 0, or 1 where the slice has under 29 numbers, and then nothing changes.
+#[no_mangle]
+pub extern "C" fn bartsemmo_battery_opened(numbers: &mut [u32], cells: u32, volts: u32) -> u32
+    ensures answer { λ r. ⌜ r ≡ shortNumber (now (numbers .entry)) ⌝ }
+    ensures stored { λ _. ⌜ now (numbers .exit) ≡ storedOf (now (numbers .entry)) (openedFor cells volts) ⌝ }
+{
+    if numbers.len() < SIZE {
+        return 1;
+    }
+    let battery = Battery::new(BattConfig::for_pack(cells, from_bits(volts)));
     put_battery(numbers, battery);
     0
 }

@@ -1,10 +1,17 @@
 -- The battery of a state that calls lead to: its configuration is the opening's, and a sound one is within document 01's bounds.
 use mathlib.Core.Path.{_≡_, _∙_, ap}
-use lib.Ieee.{Float}
+use lib.Dec.{lit<}
+use lib.Ieee.{Float, binary32, sub, lt}
 use Rattle.relay_batt.specs.declared.battery.Battery.{Battery}
-use Rattle.relay_batt.specs.Config.{capacityOf, capacityMah, forOpeningVoltsOf}
+use Rattle.relay_batt.specs.declared.battery.Reading.the-variants.{Volts}
+use Rattle.relay_batt.specs.Curve.{f32}
+use Rattle.relay_batt.specs.Config.{packCells, capacityOf, capacityMah, debounceS, perCellOf, FromPack}
+use Rattle.relay_batt.specs.Latch.{tripOf}
+use Rattle.relay_batt.specs.Estimator.{cutDt, cutVolts}
 use Rattle.relay_batt.specs.Sound.{Sound as SoundBattery, InBounds}
-use Rattle.relay_batt.proofs.Sound.{update-cfg, opened-cfg, capacity-opening}
+use Rattle.relay_batt.proofs.Cells.{opened-pack, update-pack, low-by-volts, critical-by-volts}
+use Rattle.relay_batt.proofs.Sound.{capacity-pack}
+use Rattle.falcon_guidance.specs.declared.state.Tick.{Tick}
 use Rattle.falcon_failsafe.specs.declared.flight.FlightSupervisor.{FlightSupervisor}
 use Rattle.falcon_core.specs.declared.supervisor.Supervisor.{Supervisor}
 use Rattle.falcon_failsafe.specs.Flight.{openedOf}
@@ -13,35 +20,52 @@ use Rattle.falcon_core.specs.Calls.{Request, Planning, opens, ticks, rep
 use Rattle.falcon_core.proofs.Parts.{reported-keeps}
 use Rattle.falcon_core.proofs.Stages.{tick-config, tick-battery}
 
--- the estimator's configuration is what the opening's volts give
-abbrev pub FromOpening : FlightSupervisor → Type 0
-FromOpening f = f .battery .est .cfg ≡ forOpeningVoltsOf (f .config .«low_batt_v»)
+-- the estimator's configuration is what the opening's volts give for its own cells
+abbrev pub OwnPack : FlightSupervisor → Type 0
+OwnPack f = FromPack (f .battery .est .cfg) (f .config .«low_batt_v»)
 
-planned-from-opening : (f : FlightSupervisor) (p : Planning) → FromOpening f → FromOpening (plannedOf f p)
+planned-pack : (f : FlightSupervisor) (p : Planning) → OwnPack f → OwnPack (plannedOf f p)
 unfolding plannedOf
-planned-from-opening f p k = k
+planned-pack f p k = k
 
 -- an accepted call
-pub after-from-opening : (s : Supervisor) (r : Request) → FromOpening (s .flight) → refusalOf s r ≡ 0 → FromOpening (afterOf s r .flight)
+pub after-pack : (s : Supervisor) (r : Request) → OwnPack (s .flight) → refusalOf s r ≡ 0 → OwnPack (afterOf s r .flight)
 unfolding afterOf flightAfter startOf commandedBy openedOf
-after-from-opening s (opens o) k e = opened-cfg (forOpeningVoltsOf (o .«low_batt_v»))
-after-from-opening s (ticks t) k e =
-    ap (λ (b : Battery). b .est .cfg) (tick-battery (s .flight) (legsIn s) t)
-    ∙ update-cfg (s .flight .battery) (t .dt) (t .reading)
-    ∙ rw (tick-config (s .flight) (legsIn s) t) k
-after-from-opening s (reports failed) k e = reported-keeps FromOpening (s .flight) failed k k
-after-from-opening s (commands ev level low) k e = k
-after-from-opening s (plans p) k e = planned-from-opening (s .flight) p k
+after-pack s (opens o) k e = opened-pack packCells (o .«low_batt_v») (lit< tt)
+after-pack s (ticks t) k e =
+    rw (tick-battery (s .flight) (legsIn s) t, tick-config (s .flight) (legsIn s) t) (update-pack (s .flight .battery) (t .dt) (t .reading) k)
+after-pack s (reports failed) k e = reported-keeps OwnPack (s .flight) failed k k
+after-pack s (commands ev level low) k e = k
+after-pack s (plans p) k e = planned-pack (s .flight) p k
 
 -- the state with no opening
-pub unopened-from-opening : FromOpening (unopened .flight)
+pub unopened-pack : OwnPack (unopened .flight)
 unfolding unopened openedOf
-unopened-from-opening = opened-cfg _
+unopened-pack = opened-pack packCells _ (lit< tt)
 
--- "Bounds to be shown: charge 0..1, used 0..5000 mAh, estimated resistance 0.001..0.2": of a sound battery of the built-in pack
-pub sound-bounds : (b : Battery) (volts : Float) → b .est .cfg ≡ forOpeningVoltsOf volts → SoundBattery b → InBounds b
-sound-bounds b volts e k =
-    let full : capacityOf (b .est .cfg) ≡ capacityMah = ap capacityOf e ∙ capacity-opening volts in
+-- with volts alone, below compares the reading over the state's cells with the opening's volts over the same
+module _ (s : Supervisor) (t : Tick) (volts : Float) (k : OwnPack (s .flight)) (e : t .reading ≡ Volts volts) where
+  abbrev b : Battery
+  b = s .flight .battery
+
+  abbrev reading : Float
+  reading = perCellOf (b .est .cfg .cells) (cutVolts volts)
+
+  abbrev opening : Float
+  opening = perCellOf (b .est .cfg .cells) (s .flight .config .«low_batt_v»)
+
+  pub tick-low-by-volts : afterOf s (ticks t) .flight .battery .est .low ≡ tripOf (b .est .low) (cutDt (t .dt)) (lt reading opening) debounceS
+  unfolding afterOf flightAfter
+  tick-low-by-volts = rw (tick-battery (s .flight) (legsIn s) t, e) (low-by-volts _ _ b (k .made) (t .dt) volts)
+
+  pub tick-critical-by-volts : afterOf s (ticks t) .flight .battery .est .critical ≡ tripOf (b .est .critical) (cutDt (t .dt)) (lt reading (sub binary32 opening (f32 0x3e19_999a))) debounceS
+  unfolding afterOf flightAfter
+  tick-critical-by-volts = rw (tick-battery (s .flight) (legsIn s) t, e) (critical-by-volts _ _ b (k .made) (t .dt) volts)
+
+-- "Bounds to be shown: charge 0..1, used 0..5000 mAh, estimated resistance 0.001..0.2": of a sound battery of the built-in pack, with any cell count
+pub sound-bounds : (b : Battery) (volts : Float) → FromPack (b .est .cfg) volts → SoundBattery b → InBounds b
+sound-bounds b volts p k =
+    let full : capacityOf (b .est .cfg) ≡ capacityMah = ap capacityOf (p .made) ∙ capacity-pack (b .est .cfg .cells) volts in
     record {
       charge-bound = k .shown .charge;
       used-bound = rw full at (k .estimator .used);

@@ -8,9 +8,9 @@ use lib.Ieee.{Float, nan, binary32, add, lt, le}
 use lib.Ieee.Bits.{ofBits-fits}
 use lib.Ieee.Fits.{cond-fits, nan-fits, add-fits, sub-fits}
 use Rattle.relay_fsm.specs.declared.Mode.{Mode}
-use Rattle.relay_batt.specs.Config.{forOpeningVoltsOf}
+use Rattle.relay_batt.specs.Config.{packCells, forOpeningVoltsOf}
 use Rattle.relay_batt.specs.Fits.{Fit}
-use Rattle.relay_batt.proofs.Fits.{fits-update, fits-new, fits-opening}
+use Rattle.relay_batt.proofs.Fits.{fits-update, fits-new, fits-pack}
 use Rattle.falcon_guidance.specs.declared.state.Point.{Point}
 use Rattle.falcon_guidance.specs.declared.state.Hold.{Hold}
 use Rattle.falcon_failsafe.specs.declared.flight.Opening.{Opening}
@@ -70,7 +70,7 @@ opened-fits : (o : Opening) → FitOpening o → FitFlight (openedOf o) noPoints
 unfolding openedOf
 opened-fits o k = record {
   config = record { home = k .home; fence = k .fence; cruise = k .cruise; volts = k .volts };
-  battery = fits-new (forOpeningVoltsOf (o .«low_batt_v»)) (fits-opening (o .«low_batt_v»));
+  battery = fits-new (forOpeningVoltsOf (o .«low_batt_v»)) (fits-pack packCells (o .«low_batt_v»));
   waypoints = λ i. replicate-holds FitPoint nowhere origin maxWaypoints i nowhere-fits origin-fits;
   zones = λ i. replicate-holds FitZone noPlace noZone maxKeepoutZones i (record { center = nowhere-fits; radius = nan-fits binary32 }) (record { center = origin-fits; radius = zero-fits });
   hold = record { x = k .home .x; y = k .home .y; brake = zero-fits; rest = zero-fits };

@@ -12,7 +12,7 @@ use Rattle.relay_math.specs.Small.{bits}
 use Rattle.relay_math.proofs.Laws.{read-back, flag-back}
 use Rattle.relay_fsm.specs.Mode.{modeAt}
 use Rattle.relay_fsm.proofs.Finite.{mode-at}
-use Rattle.relay_batt.specs.Config.{forPackOf}
+use Rattle.relay_batt.specs.Config.{forPackOf, FromPack}
 use Rattle.relay_batt.specs.declared.config.BattConfig.{BattConfig}
 use Rattle.relay_batt.specs.Fits.{Fit, FitBattery}
 use Rattle.relay_batt.specs.Numbers.{estimatorNumbers, stateNumbers, silenceNumbers, batteryNumbers, estimatorBy, stateBy, batteryBy}
@@ -26,7 +26,7 @@ use Rattle.falcon_core.specs.SoundState.{FitConfig, FitHold}
 use Rattle.falcon_record.specs.Form.{Form, pointsAt, zoneWidth, zonesAt}
 use Rattle.falcon_record.specs.Columns.{noTop, configColumns, checkColumns, holdColumns, countColumns, useColumns, scalarColumns, pointColumns, pointsColumns, zoneColumns, zonesColumns, laterColumns, placeColumns, columnsIn}
 use Rattle.falcon_record.specs.From.{configFrom, batteryFrom, holdFrom, totalsFrom, pointFrom, pointsFrom, zoneFrom, zonesFrom, flightFrom, recordFrom}
-use Rattle.falcon_record.specs.Kept.{FromPack, Kept, Ready, Carries}
+use Rattle.falcon_record.specs.Kept.{Kept, Ready, Carries}
 use Rattle.falcon_record.proofs.Stretch.{place-at, refilled}
 use Rattle.falcon_record.proofs.Lengths.{length-scalars, length-point, length-zone, length-before}
 
@@ -49,7 +49,7 @@ module _ (s : Supervisor) (rest : List ℕ) where
         «calibration_configured» = flag-back (c .«calibration_configured») i;
       }
 
-  battery-back : FitConfig (s .flight .config) → FromPack (s .flight) → FitBattery (s .flight .battery) → batteryFrom (scalarColumns s ++ rest) ≡ s .flight .battery
+  battery-back : FitConfig (s .flight .config) → FromPack (s .flight .battery .est .cfg) (s .flight .config .«low_batt_v») → FitBattery (s .flight .battery) → batteryFrom (scalarColumns s ++ rest) ≡ s .flight .battery
   unfolding batteryFrom batteryBy estimatorBy stateBy scalarColumns configColumns checkColumns batteryNumbers estimatorNumbers stateNumbers silenceNumbers
   battery-back c m k =
       let b = s .flight .battery in

@@ -2,11 +2,9 @@
 use Prim.Native.Nat.{ℕ, _<_, _^_}
 use native.Mathlib.Omega.{arith}
 use mathlib.Core.List.{List}
-use mathlib.Core.Path.{_≡_, sym, ap, _∙_}
+use mathlib.Core.Path.{_≡_}
 use lib.Dec.{lit<}
 use Rattle.columns.specs.Line.{InRange}
-use Rattle.relay_batt.specs.declared.config.BattConfig.{BattConfig}
-use Rattle.relay_batt.specs.Config.{packCells, forPackOf, forOpeningVoltsOf}
 use Rattle.falcon_guidance.specs.declared.state.Tick.{Tick}
 use Rattle.falcon_failsafe.specs.declared.flight.FlightSupervisor.{FlightSupervisor}
 use Rattle.falcon_failsafe.specs.Flight.{openedOf}
@@ -20,8 +18,6 @@ use Rattle.falcon_core.specs.Supervisor.{unopened}
 use Rattle.falcon_core.specs.Calls.{Request, opens, ticks, reports, commands, plans, refusalOf, legsIn, startOf, flightAfter, afterOf}
 use Rattle.falcon_core.proofs.Stages.{tick-counts, report-counts, command-counts}
 use Rattle.falcon_core.proofs.Parts.{cond-keeps, planned-counts}
-use Rattle.falcon_core.proofs.Battery.{FromOpening}
-use Rattle.falcon_record.specs.Kept.{FromPack}
 
 -- ---- the wind count
 
@@ -42,15 +38,6 @@ after-wind s (plans p) k e = rw (planned-counts (s .flight) p) k
 pub unopened-wind : unopened .flight .counts .«wind_count» < 2 ^ 32
 unfolding unopened openedOf
 unopened-wind = lit< tt
-
--- ---- the pack
-
--- the opening's configuration is that of its own cells
-pub from-pack : (f : FlightSupervisor) → FromOpening f → FromPack f
-unfolding forOpeningVoltsOf forPackOf
-from-pack f e =
-    let four : f .battery .est .cfg .cells ≡ packCells = ap (λ (c : BattConfig). c .cells) e in
-    record { made = e ∙ ap (λ (n : ℕ). forPackOf n (f .config .«low_batt_v»)) (sym four); cells-below = omega arith }
 
 -- ---- the totals
 

@@ -1,4 +1,5 @@
 -- The floats of a battery stay f32 values. Each operation's result fits, so only the readings that are cut and what is kept need a word. Assumes nothing.
+use Prim.Native.Nat.{ℕ}
 use mathlib.Core.Bool.{Bool, _&&_, cond}
 use mathlib.Core.List.{List, [], _∷_}
 use lib.Ieee.{Float, binary32, sub, div, le, lt}
@@ -8,7 +9,7 @@ use lib.Ieee.Scale.{finite}
 use Rattle.relay_math.specs.Small.{clampOf}
 use Rattle.relay_batt.specs.Curve as curve
 use Rattle.relay_batt.specs.Curve.{sanitizeOf, knots, between, walk, tableOf, cellMax, ocvSocCellOf}
-use Rattle.relay_batt.specs.Config.{capacityMin, capacityMax, fallbackCapacity, fallbackResistance, defaultOf, forPackOf, forOpeningVoltsOf, capacityOf, cellsOf}
+use Rattle.relay_batt.specs.Config.{capacityMin, capacityMax, fallbackCapacity, fallbackResistance, defaultOf, forPackOf, capacityOf, perCellOf}
 use Rattle.relay_batt.specs.Latch.{tripOf}
 use Rattle.relay_batt.specs.Estimator.{vMax, iMax, rMin, rMax, noneOf, shownOf, newOf, consumedOf, bigStepOf, blendOf, rEstOf, restOf, socCoulombOf, socOf, withAmpsOf, voltsOnlyOf, cutDt, cutVolts, cutAmps, updateAmpsOf, updateVoltsOf}
 use Rattle.relay_batt.specs.Battery.{openedOf, heardOf, updateOf}
@@ -97,7 +98,7 @@ coulomb-fits c used = sanitize-fits _ curve.zero curve.one curve.zero (sub-fits 
 soc-fits : (c : BattConfig) (used rest : Float) → Fit (socOf c used rest)
 unfolding socOf
 soc-fits c used rest =
-    let cell = div binary32 rest (cellsOf c) in
+    let cell = perCellOf (c .cells) rest in
     cond-fits binary32 (lt (socCoulombOf c used) (ocvSocCellOf cell)) (socCoulombOf c used) (ocvSocCellOf cell) (coulomb-fits c used) (curve-fits cell)
 
 -- ---- the battery
@@ -150,9 +151,9 @@ fits-new c f = record {
   silence = zero-fits;
 }
 
-pub fits-opening : (volts : Float) → FitConfig (forOpeningVoltsOf volts)
-unfolding forOpeningVoltsOf forPackOf defaultOf
-fits-opening volts = record {
+pub fits-pack : (cells : ℕ) (volts : Float) → FitConfig (forPackOf cells volts)
+unfolding forPackOf perCellOf defaultOf
+fits-pack cells volts = record {
   capacity = ofBits-fits binary32 _;
   internal = ofBits-fits binary32 _;
   low-soc = ofBits-fits binary32 _;

@@ -5,6 +5,8 @@ mod Finite
 mod Trip
 mod Examples
 pub mod CurveBounds
+pub mod Cells
+pub mod NotBelow
 pub mod Sound
 pub mod SoundTest
 pub mod Stays

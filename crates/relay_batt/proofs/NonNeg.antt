@@ -143,11 +143,11 @@ sub-grows f {x} {y} {k} p q r g h z =
     (rounded f (num x * den k - num k * den x) (den x * den k) (num y * den k - num k * den y) (den y * den k) (mul-pos (den-pos x) (den-pos k)) (mul-pos (den-pos y) (den-pos k))
     (minus (num x) (den x) (num y) (den y) (num k) (den k) (le→cross p q h)) (subst (λ (w : Float). NonNeg w) b z)))
 
-div-is : (f : Format) {x k : Float} → NonNeg x → Positive k → div f x k ≡ round f false (num x * den k) (num k * den x)
+pub div-is : (f : Format) {x k : Float} → NonNeg x → Positive k → div f x k ≡ round f false (num x * den k) (num k * den x)
 unfolding div
 div-is f (plus m e) (above n d) = rw (eqb·suc-zero n)
 
-num-pos : {k : Float} → Positive k → 0 < num k
+pub num-pos : {k : Float} → Positive k → 0 < num k
 num-pos (above n d) = mul-pos (zero-lt-suc n) (up-pos d)
 
 over : (x p y q n d : ℕ) → x * q ≤ y * p → x * d * (n * q) ≤ y * d * (n * p)

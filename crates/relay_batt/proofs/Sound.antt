@@ -13,7 +13,7 @@ use Rattle.relay_math.specs.Small.{clampOf}
 use Rattle.relay_batt.specs.Bounds.{Within}
 use Rattle.relay_batt.specs.Curve as curve
 use Rattle.relay_batt.specs.Curve.{one, sanitizeOf, ocvSocCellOf}
-use Rattle.relay_batt.specs.Config.{capacityMah, capacityMin, capacityMax, fallbackCapacity, fallbackResistance, defaultOf, capacityOf, cellsOf, forPackOf, forOpeningVoltsOf}
+use Rattle.relay_batt.specs.Config.{capacityMah, capacityMin, capacityMax, fallbackCapacity, fallbackResistance, defaultOf, capacityOf, perCellOf, forPackOf}
 use Rattle.relay_batt.specs.Latch.{tripOf}
 use Rattle.relay_batt.specs.Estimator.{vMax, iMax, dtMax, rMin, rMax, noneOf, shownOf, newOf, consumedOf, bigStepOf, blendOf, rEstOf, restOf, socCoulombOf, socOf, withAmpsOf, voltsOnlyOf, cutDt, cutVolts, cutAmps, updateAmpsOf, updateVoltsOf}
 use Rattle.relay_batt.specs.Battery.{openedOf, heardOf, updateOf, Turn, runOf}
@@ -118,7 +118,7 @@ coulomb-within cfg used = sanitize-within _ curve.zero one curve.zero tt tt tt t
 pub soc-within : (cfg : BattConfig) (used rest : Float) → Within curve.zero one (socOf cfg used rest)
 unfolding socOf
 soc-within cfg used rest =
-    let cell = div binary32 rest (cellsOf cfg) in
+    let cell = perCellOf (cfg .cells) rest in
     cond-within (lt (socCoulombOf cfg used) (ocvSocCellOf cell)) curve.zero one (socCoulombOf cfg used) (ocvSocCellOf cell) (coulomb-within cfg used) (curve-within cell)
 
 -- ---- one reading
@@ -225,22 +225,22 @@ pub opened-cfg : (cfg : BattConfig) → openedOf cfg .est .cfg ≡ cfg
 unfolding openedOf newOf
 opened-cfg cfg = refl
 
--- the built-in pack's capacity, whatever the opening volts are
-pub capacity-opening : (volts : Float) → capacityOf (forOpeningVoltsOf volts) ≡ capacityMah
-unfolding capacityOf forOpeningVoltsOf forPackOf defaultOf sanitizeOf clampOf ofBits lt
-capacity-opening volts = refl
+-- the built-in pack's capacity, whatever the cell count and the opening volts are
+pub capacity-pack : (cells : ℕ) (volts : Float) → capacityOf (forPackOf cells volts) ≡ capacityMah
+unfolding capacityOf forPackOf defaultOf sanitizeOf clampOf ofBits lt
+capacity-pack cells volts = refl
 
 pub capacity-default : capacityOf defaultOf ≡ capacityMah
 unfolding capacityOf defaultOf sanitizeOf clampOf ofBits lt
 capacity-default = refl
 
--- document 01's bounds, at every place of every list of turns from an opening
-pub bounds : (volts : Float) (l : List Turn) → InBounds (runOf (openedOf (forOpeningVoltsOf volts)) l)
-bounds volts l =
-    let b0 = openedOf (forOpeningVoltsOf volts) in
+-- document 01's bounds, at every place of every list of turns from an opening, whatever the cell count
+pub bounds : (cells : ℕ) (volts : Float) (l : List Turn) → InBounds (runOf (openedOf (forPackOf cells volts)) l)
+bounds cells volts l =
+    let b0 = openedOf (forPackOf cells volts) in
     let b = runOf b0 l in
-    let s = sound-run b0 l (sound-new (forOpeningVoltsOf volts)) in
-    let cap : capacityOf (b .est .cfg) ≡ capacityMah = ap capacityOf (run-cfg b0 l ∙ opened-cfg (forOpeningVoltsOf volts)) ∙ capacity-opening volts in
+    let s = sound-run b0 l (sound-new (forPackOf cells volts)) in
+    let cap : capacityOf (b .est .cfg) ≡ capacityMah = ap capacityOf (run-cfg b0 l ∙ opened-cfg (forPackOf cells volts)) ∙ capacity-pack cells volts in
     record {
       charge-bound = s .shown .charge;
       used-bound = subst (λ (c : Float). Within curve.zero c (b .est .«consumed_mah»)) cap (s .estimator .used);

@@ -1,5 +1,6 @@
 -- `BattConfig` of relay-batt, and the thresholds that `with_core` sets.
-use Prim.Native.Nat.{ℕ}
+use mathlib.Core.Path.{_≡_}
+use Prim.Native.Nat.{ℕ, _<_, _^_}
 use mathlib.Core.Bool.{cond}
 use lib.Dec.{eqb}
 use lib.IntN.{pos}
@@ -11,9 +12,9 @@ use Rattle.relay_batt.specs.declared.config.BattConfig.{BattConfig}
 abbrev pub capacityMah : Float
 capacityMah = f32 0x459c_4000
 
--- the cell count of the built-in pack, by which the opening's volts are divided
+-- "the default of four goes to six"
 abbrev pub packCells : ℕ
-packCells = 4
+packCells = 6
 
 -- the built-in pack's 0.024 ohm
 abbrev pub rInternal : Float
@@ -36,10 +37,22 @@ defaultOf = record {
   «debounce_s» = debounceS;
 }
 
--- the built-in pack with so many cells, and the thresholds by opening volts
+-- `cells` of `update`: 0 cells count as 1
+unfoldable pub cellsOf : ℕ → Float
+cellsOf cells = cond (eqb cells 0) one (ofInt binary32 (pos cells))
+
+-- `low_batt_v`, `rest` and `v` over the cells: volts of the pack as volts a cell
+unfoldable pub perCellOf : ℕ → Float → Float
+perCellOf cells volts = div binary32 volts (cellsOf cells)
+
+-- the 0.15 V a cell between low and critical
+abbrev pub critBelowLow : Float
+critBelowLow = f32 0x3e19_999a
+
+-- "Opening volts are then divided by the cell count, not by 4, for both thresholds": the built-in pack with so many cells
 unfoldable pub forPackOf : ℕ → Float → BattConfig
 forPackOf cells volts =
-    let low = div binary32 volts (ofInt binary32 (pos cells)) in
+    let low = perCellOf cells volts in
     record {
       «capacity_mah» = defaultOf .«capacity_mah»;
       cells = cells;
@@ -47,12 +60,17 @@ forPackOf cells volts =
       «low_soc» = defaultOf .«low_soc»;
       «crit_soc» = defaultOf .«crit_soc»;
       «low_v_cell_fallback» = low;
-      «crit_v_cell_fallback» = sub binary32 low (f32 0x3e19_999a);
+      «crit_v_cell_fallback» = sub binary32 low critBelowLow;
       «debounce_s» = defaultOf .«debounce_s»;
     }
 
--- "Opening volts L give thresholds L / 4 and L / 4 − 0.15": the configuration of `with_core`
-unfoldable pub forOpeningVoltsOf : Float → BattConfig
+-- the configuration is the one that opening volts give for its own cells
+pub record FromPack (cfg : BattConfig) (volts : Float) : Type 0 where
+  pub made : cfg ≡ forPackOf (cfg .cells) volts
+  pub cells-below : cfg .cells < 2 ^ 32
+
+-- the configuration of `with_core`
+abbrev pub forOpeningVoltsOf : Float → BattConfig
 forOpeningVoltsOf volts = forPackOf packCells volts
 
 -- 1 mAh and 1e6 mAh, between which a capacity is cut
@@ -73,7 +91,3 @@ fallbackResistance = f32 0x3cc4_9ba6
 -- `cap` of `update`: the capacity cut to 1..1e6, and 5000 where it is not finite
 unfoldable pub capacityOf : BattConfig → Float
 capacityOf cfg = sanitizeOf (cfg .«capacity_mah») capacityMin capacityMax fallbackCapacity
-
--- `cells` of `update`: 0 cells count as 1
-unfoldable pub cellsOf : BattConfig → Float
-cellsOf cfg = cond (eqb (cfg .cells) 0) one (ofInt binary32 (pos (cfg .cells)))

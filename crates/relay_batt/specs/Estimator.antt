@@ -2,7 +2,7 @@
 use mathlib.Core.Bool.{Bool, true, false, cond, not, _&&_}
 use lib.Ieee.{Float, binary32, add, sub, mul, div, neg, lt, le}
 use Rattle.relay_batt.specs.Curve.{f32, zero, one, sanitizeOf, ocvSocCellOf}
-use Rattle.relay_batt.specs.Config.{fallbackResistance, capacityOf, cellsOf}
+use Rattle.relay_batt.specs.Config.{fallbackResistance, capacityOf, perCellOf}
 use Rattle.relay_batt.specs.Latch.{newLatchOf, tripOf}
 use Rattle.relay_batt.specs.declared.config.BattConfig.{BattConfig}
 use Rattle.relay_batt.specs.declared.estimator.BattState.{BattState}
@@ -116,7 +116,7 @@ socCoulombOf cfg consumed = sanitizeOf (sub binary32 one (div binary32 consumed 
 unfoldable pub socOf : BattConfig → Float → Float → Float
 socOf cfg consumed rest =
     let coulomb = socCoulombOf cfg consumed in
-    let ocv = ocvSocCellOf (div binary32 rest (cellsOf cfg)) in
+    let ocv = ocvSocCellOf (perCellOf (cfg .cells) rest) in
     cond (lt coulomb ocv) coulomb ocv
 
 -- an estimator and the state that it shows
@@ -146,7 +146,7 @@ withAmpsOf e dt v i =
 -- `update` with volts alone, on numbers that are cut to their ranges
 unfoldable pub voltsOnlyOf : BatteryEstimator → Float → Float → Updated
 voltsOnlyOf e dt v =
-    let cell = div binary32 v (cellsOf (e .cfg)) in
+    let cell = perCellOf (e .cfg .cells) v in
     showing
     record {
       cfg = e .cfg;

@@ -2,7 +2,7 @@
 
 use crate::curve::sanitize;
 ghost use mathlib.Core.Path.{_≡_};
-ghost use Rattle.relay_batt.specs.Config.{defaultOf, forOpeningVoltsOf, capacityOf, cellsOf};
+ghost use Rattle.relay_batt.specs.Config.{defaultOf, forPackOf, forOpeningVoltsOf, capacityOf, cellsOf, perCellOf};
 
 // Capacity in mAh, cells in series, ohms of the whole pack; thresholds of charge, of volts a cell, and of seconds.
 pub struct BattConfig {
@@ -19,7 +19,7 @@ pub struct BattConfig {
 impl BattConfig {
     pub const CAPACITY_MAH: f32 = 5000.0;
 
-    pub const CELLS: u32 = 4;
+    pub const CELLS: u32 = 6;
 
     pub const R_INTERNAL: f32 = 0.024;
 
@@ -60,16 +60,23 @@ impl BattConfig {
         }
     }
 
+    // The built-in pack with so many cells, and the thresholds that an opening's volts give it.
+    pub fn for_pack(cells: u32, low_batt_v: f32) -> BattConfig
+        ensures { λ r. ⌜ r ≡ forPackOf cells «low_batt_v» ⌝ }
+    {
+        let mut cfg = Self::default();
+        cfg.cells = cells;
+        let low = cfg.per_cell(low_batt_v);
+        cfg.low_v_cell_fallback = low;
+        cfg.crit_v_cell_fallback = low - Self::CRIT_BELOW_LOW_V;
+        cfg
+    }
+
     // The built-in pack with the thresholds that an opening's volts give.
     pub fn for_opening_volts(low_batt_v: f32) -> BattConfig
         ensures { λ r. ⌜ r ≡ forOpeningVoltsOf «low_batt_v» ⌝ }
     {
-        let cells = std::num::nearest_u32_to_f32(Self::CELLS);
-        let low = low_batt_v / cells;
-        let mut cfg = Self::default();
-        cfg.low_v_cell_fallback = low;
-        cfg.crit_v_cell_fallback = low - Self::CRIT_BELOW_LOW_V;
-        cfg
+        Self::for_pack(Self::CELLS, low_batt_v)
     }
 
     // The capacity that is counted with.
@@ -85,12 +92,19 @@ impl BattConfig {
     }
 
     // The number of cells, at least one.
-    pub fn cell_count(self) -> f32
-        ensures { λ r. ⌜ r ≡ cellsOf self ⌝ }
+    fn cell_count(self) -> f32
+        ensures { λ r. ⌜ r ≡ cellsOf (self .cells) ⌝ }
     {
         if self.cells == 0 {
             return 1.0;
         }
         std::num::nearest_u32_to_f32(self.cells)
+    }
+
+    // Volts of the pack as volts a cell.
+    pub fn per_cell(self, volts: f32) -> f32
+        ensures { λ r. ⌜ r ≡ perCellOf (self .cells) volts ⌝ }
+    {
+        volts / self.cell_count()
     }
 }

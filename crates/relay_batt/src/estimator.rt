@@ -177,8 +177,7 @@ impl BatteryEstimator {
     {
         let cap = cfg.capacity();
         let coulomb = sanitize(1.0 - consumed_mah / cap, 0.0, 1.0, 0.0);
-        let cells = cfg.cell_count();
-        let ocv = ocv_soc_cell(rest / cells);
+        let ocv = ocv_soc_cell(cfg.per_cell(rest));
         if coulomb < ocv {
             return coulomb;
         }
@@ -241,8 +240,7 @@ impl BatteryEstimator {
         ensures { λ r. ⌜ r ≡ voltsOnlyOf self dt v ⌝ }
     {
         let cfg = self.cfg;
-        let cells = cfg.cell_count();
-        let v_cell = v / cells;
+        let v_cell = cfg.per_cell(v);
         let soc = ocv_soc_cell(v_cell);
         let low = self.low;
         let low = low.update(dt, v_cell < cfg.low_v_cell_fallback, cfg.debounce_s);

@@ -106,7 +106,7 @@ fn opened() -> Supervisor {
         home: Point::origin(),
         fence_radius: 100.0,
         cruise_alt: 10.0,
-        low_batt_v: 14.0,
+        low_batt_v: 21.0,
         required: 0,
         passed: 0,
         calibration_configured: false,

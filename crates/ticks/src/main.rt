@@ -85,7 +85,7 @@ fn tick_at(i: u32) -> Tick {
         failed_motor: false,
         motor_rpm: true,
         reading: Reading::VoltsAmps {
-            volts: 15.2,
+            volts: 22.8,
             amps: 12.0,
         },
     }
@@ -129,7 +129,7 @@ fn started() -> Supervisor {
         home: Point::origin(),
         fence_radius: 100.0,
         cruise_alt: 10.0,
-        low_batt_v: 14.0,
+        low_batt_v: 21.0,
         required: 0,
         passed: 0,
         calibration_configured: true,

@@ -1,10 +1,10 @@
 -- `volts_only` is `voltsOnlyOf`, by what each call ensures.
 use mathlib.Core.Path.{_≡_}
 use mathlib.Core.Bool.{true, false}
-use lib.Ieee.{Float, binary32, div, lt}
+use lib.Ieee.{Float, lt}
 use borrow.Author.Needs.{needs}
 use Rattle.relay_batt.specs.Curve.{zero, ocvSocCellOf}
-use Rattle.relay_batt.specs.Config.{cellsOf}
+use Rattle.relay_batt.specs.Config.{perCellOf}
 use Rattle.relay_batt.specs.Latch.{tripOf}
 use Rattle.relay_batt.specs.Estimator.{shownOf, voltsOnlyOf}
 use Rattle.relay_batt.specs.declared.latch.TripLatch.{TripLatch}
@@ -14,8 +14,8 @@ use Rattle.relay_batt.specs.declared.estimator.Updated.{Updated}
 use Rattle.relay_batt.proofs.estimator.BatteryEstimator.volts_only.Statement.{statement}
 use Rattle.relay_batt.proofs.estimator.BatteryEstimator.volts_only.Tie as tie
 
-cell-count-requires : tie.Need-cell-count-requires
-cell-count-requires c κs = search needs
+per-cell-requires : tie.Need-per-cell-requires
+per-cell-requires c κs = search needs
 
 ocv-soc-cell-requires : tie.Need-ocv-soc-cell-requires
 ocv-soc-cell-requires c κs = search needs
@@ -44,11 +44,11 @@ after e low critical = record {
 
 -- the facts of the calls, put together
 joined :
-    (e : BatteryEstimator) (dt v : Float) {cells soc : Float} {low critical : TripLatch} {state : BattState} →
-    cells ≡ cellsOf (e .cfg) →
-    soc ≡ ocvSocCellOf (div binary32 v cells) →
-    low ≡ tripOf (e .low) dt (lt (div binary32 v cells) (e .cfg .«low_v_cell_fallback»)) (e .cfg .«debounce_s») →
-    critical ≡ tripOf (e .critical) dt (lt (div binary32 v cells) (e .cfg .«crit_v_cell_fallback»)) (e .cfg .«debounce_s») →
+    (e : BatteryEstimator) (dt v : Float) {cell soc : Float} {low critical : TripLatch} {state : BattState} →
+    cell ≡ perCellOf (e .cfg .cells) v →
+    soc ≡ ocvSocCellOf cell →
+    low ≡ tripOf (e .low) dt (lt cell (e .cfg .«low_v_cell_fallback»)) (e .cfg .«debounce_s») →
+    critical ≡ tripOf (e .critical) dt (lt cell (e .cfg .«crit_v_cell_fallback»)) (e .cfg .«debounce_s») →
     state ≡ shownOf (after e low critical) v v zero soc true →
     _≡_ {A = Updated} record { est = after e low critical; state = state } (voltsOnlyOf e dt v)
 unfolding voltsOnlyOf
@@ -60,7 +60,7 @@ returns c =
     (c .before .before .before .before .before .before .before .before .before .before .args .self)
     (c .before .before .before .before .before .before .before .before .before .before .args .dt)
     (c .before .before .before .before .before .before .before .before .before .before .args .v)
-    (c .before .before .before .before .before .before .before .before .cell-count .ensures)
+    (c .before .before .before .before .before .before .before .before .per-cell .ensures)
     (c .before .before .before .before .before .before .before .ocv-soc-cell .ensures)
     (c .before .before .before .before .update .ensures)
     (c .before .update2 .ensures)
@@ -70,7 +70,7 @@ pub volts-only-spec : {M : Type 1} → statement M
 volts-only-spec =
     tie.close
     (tie.spec
-    cell-count-requires
+    per-cell-requires
     ocv-soc-cell-requires
     update-requires
     update-requires-2
