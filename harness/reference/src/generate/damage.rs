@@ -157,7 +157,7 @@ fn bad_field(r: &mut Random, line: &[u8]) -> Vec<u8> {
 /// A tick or an opening with one number out of its range.
 fn out_of_range(r: &mut Random) -> Vec<u8> {
     if r.one_in(3) {
-        let mut n = [1, 0, 0, 0, 1120403456, 1092616192, 1096810496, 0, 0, 0];
+        let mut n = [1, 0, 0, 0, 1120403456, 1092616192, 1101529088, 0, 0, 0];
         let (at, value) = r.pick(&[(7, 2097152), (8, 2097152), (9, 2), (7, 4294967295), (8, 2147483648), (9, 4294967295)]);
         n[at] = value;
         return numbers_line(&n);
@@ -175,8 +175,8 @@ fn out_of_range(r: &mut Random) -> Vec<u8> {
         &[(17, 1)],
         &[(17, 2147483648)],
         &[(15, 1), (17, 1)],
-        &[(15, 1), (16, 1098907648), (17, 2147483648)],
-        &[(15, 3), (16, 1098907648), (17, 1)],
+        &[(15, 1), (16, 1103101952), (17, 2147483648)],
+        &[(15, 3), (16, 1103101952), (17, 1)],
     ];
     for &(at, value) in r.pick(&choices) {
         n[at] = value;

@@ -1,9 +1,10 @@
 //! The profile `edge`: values one step around every limit of the Rust, and counts one around 50 and 125.
 
-use super::{event, float, Generator, OpeningLine, Step, TickLine};
-use crate::relay_batt::BatteryEstimator;
+use super::{event, float, Generator, OpeningLine, Step, TickLine, FOR_FOUR_CELLS};
+use crate::relay_batt::{BattConfig, BatteryEstimator};
 use crate::relay_fsm::Mode;
 use crate::relay_preflight::CheckId;
+use crate::sheet::{self, Opening};
 
 /// Lines after which the later scenarios come too: the sheets of crates/rows are shorter and do not change with them.
 const LATER: usize = 1_000;
@@ -50,7 +51,7 @@ pub fn scenario(g: &mut Generator) -> Step {
 }
 
 const PLAIN: OpeningLine =
-    OpeningLine { home: [0.0; 3], fence: 100.0, cruise: 10.0, low_volts: 14.0, required: 0, passed: 0, calibrated: 0 };
+    OpeningLine { home: [0.0; 3], fence: 100.0, cruise: 10.0, low_volts: 21.0, required: 0, passed: 0, calibrated: 0 };
 
 /// A tick high up and away from home.
 const AWAY: TickLine = TickLine {
@@ -372,25 +373,36 @@ fn silence(g: &mut Generator) -> Step {
             1 => g.random.between(-0.5, 0.9),
             _ => float::boundary(&mut g.random, -2.0, 3.0, |dt| sum + dt > 1.0),
         };
-        let volts = g.random.one_in(4).then_some(16.0);
+        let volts = g.random.one_in(4).then_some(24.0);
         g.fly(&TickLine { dt, p, volts, ..AWAY }, false)?;
     }
     Ok(())
 }
 
+/// The pack of an opening with these volts.
+fn pack_of(low_volts: f32) -> BattConfig {
+    sheet::open(Opening { home: [0.0; 3], fence: 100.0, cruise: 10.0, low_volts, required: 0, passed: 0, calibrated: false }).batt_est.cfg
+}
+
+/// Volts of the pack at which a cell's fall below a limit, within a step or two.
+fn volts_at(g: &mut Generator, least: f32, most: f32, limit: f32) -> f32 {
+    let cells = g.pack().cells as f32;
+    float::boundary(&mut g.random, least, most, |volts| volts / cells < limit)
+}
+
 fn volts_only(g: &mut Generator) -> Step {
     let mut o = plain(g);
-    o.low_volts = g.random.pick(&[14.0, 14.8, 14.2, 0.6, 0.0, -1.0, 60.0, 60.5, 240.0, f32::NAN]);
+    let no_critical = float::boundary(&mut g.random, 0.0, 3.0, |low_volts| pack_of(low_volts).crit_v_cell_fallback < 0.0);
+    o.low_volts = g.random.pick(&[21.0, 22.2, 21.3, FOR_FOUR_CELLS, no_critical, no_critical, 0.0, -1.0, 60.0, 60.5, 360.0, f32::NAN]);
     if g.random.one_in(2) {
-        o.low_volts = g.random.between(12.0, 16.0);
+        o.low_volts = g.random.between(18.0, 24.0);
     }
     o.required |= 1 << 4;
-    let low = o.low_volts / 4.0;
-    let critical = low - 0.15;
     enter(g, o, Mode::Takeoff)?;
+    let (low, critical) = (g.pack().low_v_cell_fallback, g.pack().crit_v_cell_fallback);
     for _ in 0..4 + g.random.below(10) {
         let limit = g.random.pick(&[low, critical]);
-        let volts = float::boundary(&mut g.random, -1.0, 70.0, |v| v / 4.0 < limit);
+        let volts = volts_at(g, -1.0, 70.0, limit);
         let estimator = g.supervisor().batt_est;
         let below = if limit == low { estimator.low.below_s } else { estimator.critical.below_s };
         let dt = match g.random.below(4) {
@@ -407,13 +419,13 @@ fn volts_only(g: &mut Generator) -> Step {
 fn volts_shown(g: &mut Generator) -> Step {
     let mut o = plain(g);
     for _ in 0..4 {
-        o.low_volts = g.random.between(12.0, 16.0);
-        let low = o.low_volts / 4.0;
-        let (limit, mode) = g.random.pick(&[(low, Mode::Takeoff), (low - 0.15, Mode::Rtl)]);
+        o.low_volts = g.low_volts(|g| g.random.between(18.0, 24.0));
+        let mode = g.random.pick(&[Mode::Takeoff, Mode::Rtl]);
         enter(g, o, mode)?;
+        let limit = if mode == Mode::Takeoff { g.pack().low_v_cell_fallback } else { g.pack().crit_v_cell_fallback };
         let tick = TickLine { dt: 1.0, p: [o.home[0] + 5.0, o.home[1], -5.0], ..AWAY };
         g.fly(&TickLine { volts: Some(1.0), ..tick }, false)?;
-        let volts = float::boundary(&mut g.random, 0.0, 20.0, |v| v / 4.0 < limit);
+        let volts = volts_at(g, 0.0, 30.0, limit);
         g.fly(&TickLine { volts: Some(volts), ..tick }, false)?;
     }
     Ok(())
@@ -421,7 +433,7 @@ fn volts_shown(g: &mut Generator) -> Step {
 
 /// Volts at which the estimator's charge falls below a limit, within a step or two.
 fn volts_for(g: &mut Generator, estimator: BatteryEstimator, dt: f32, amps: f32, limit: f32) -> f32 {
-    float::boundary(&mut g.random, 0.0, 20.0, |volts| {
+    float::boundary(&mut g.random, 0.0, 30.0, |volts| {
         let mut trial = estimator;
         trial.update(dt, volts, Some(amps)).soc < limit
     })
@@ -434,7 +446,7 @@ fn charge(g: &mut Generator) -> Step {
     let spend = g.random.one_in(3);
     if spend {
         for _ in 0..20 + g.random.below(18) {
-            g.fly(&TickLine { dt: 1.0, volts: Some(16.8), amps: Some(500.0), ..AWAY }, false)?;
+            g.fly(&TickLine { dt: 1.0, volts: Some(25.2), amps: Some(500.0), ..AWAY }, false)?;
         }
     }
     for _ in 0..4 + g.random.below(10) {
@@ -446,11 +458,11 @@ fn charge(g: &mut Generator) -> Step {
             _ => g.random.between(0.2, 1.0),
         };
         let mut amps = g.random.pick(&[0.0, 3.0, 20.0, 60.0]);
-        let mut volts = 16.8;
+        let mut volts = 25.2;
         if spend {
             amps = float::boundary(&mut g.random, 0.0, 500.0, |amps| {
                 let mut trial = estimator;
-                trial.update(dt, 16.8, Some(amps)).soc < limit
+                trial.update(dt, 25.2, Some(amps)).soc < limit
             });
         } else {
             volts = volts_for(g, estimator, dt, amps, limit);
@@ -473,7 +485,7 @@ fn charge_shown(g: &mut Generator) -> Step {
         enter(g, o, mode)?;
         let p = [o.home[0] + 5.0, o.home[1], -5.0];
         let amps = g.random.pick(&[0.0, 0.0, 4.0, 33.0]);
-        g.fly(&TickLine { dt: 1.0, p, volts: Some(13.0), amps: Some(amps), ..AWAY }, false)?;
+        g.fly(&TickLine { dt: 1.0, p, volts: Some(19.5), amps: Some(amps), ..AWAY }, false)?;
         let amps = g.random.pick(&[amps, amps, 50.0]);
         let estimator = g.supervisor().batt_est;
         let volts = volts_for(g, estimator, 1.0, amps, limit);
@@ -491,17 +503,17 @@ fn spent(g: &mut Generator) -> Step {
     o.passed = o.required;
     enter(g, o, mode)?;
     let dt = g.random.between(0.9, 0.99);
-    let full = TickLine { dt, volts: Some(16.8), amps: Some(g.random.between(380.0, 440.0)), ..AWAY };
+    let full = TickLine { dt, volts: Some(25.2), amps: Some(g.random.between(380.0, 440.0)), ..AWAY };
     while g.supervisor().batt_est.consumed_mah < 5000.0 * (1.0 - limit) - 124.0 {
         g.fly(&full, false)?;
     }
     for _ in 0..2 {
-        g.fly(&TickLine { volts: Some(13.0), amps: Some(0.0), ..full }, false)?;
+        g.fly(&TickLine { volts: Some(19.5), amps: Some(0.0), ..full }, false)?;
     }
     let estimator = g.supervisor().batt_est;
     let amps = float::boundary(&mut g.random, 0.0, 500.0, |amps| {
         let mut trial = estimator;
-        trial.update(dt, 16.8, Some(amps)).soc < limit
+        trial.update(dt, 25.2, Some(amps)).soc < limit
     });
     g.fly(&TickLine { amps: Some(amps), ..full }, false)?;
     g.fly(&full, false)?;
@@ -523,8 +535,8 @@ fn resistance(g: &mut Generator) -> Step {
             _ => g.random.between(0.0, 120.0),
         };
         let volts = match g.random.below(3) {
-            0 => g.random.pick(&[0.0, 60.0, 60.0f32.next_up(), 20.0, 17.0, -0.0, -1.0, f32::NAN, f32::INFINITY]),
-            _ => g.random.between(13.0, 17.0),
+            0 => g.random.pick(&[0.0, 60.0, 60.0f32.next_up(), 30.0, 25.5, -0.0, -1.0, f32::NAN, f32::INFINITY]),
+            _ => g.random.between(19.5, 25.5),
         };
         let dt = g.random.between(0.0, 0.3);
         g.fly(&TickLine { dt, volts: Some(volts), amps: Some(amps), ..AWAY }, false)?;
@@ -532,7 +544,7 @@ fn resistance(g: &mut Generator) -> Step {
         let volts = volts_for(g, estimator, 0.1, amps, 0.3);
         g.fly(&TickLine { dt: 0.1, volts: Some(volts), amps: Some(amps), ..AWAY }, false)?;
         if g.random.one_in(6) {
-            g.fly(&TickLine { volts: Some(16.0), ..AWAY }, false)?;
+            g.fly(&TickLine { volts: Some(24.0), ..AWAY }, false)?;
         }
     }
     Ok(())
@@ -683,7 +695,7 @@ fn checks(g: &mut Generator) -> Step {
             gnss: flag(g),
             failed: flag(g),
             rpm: u32::from(g.random.one_in(2)),
-            volts: g.random.one_in(2).then_some(16.0),
+            volts: g.random.one_in(2).then_some(24.0),
             amps: g.random.one_in(2).then_some(1.0),
             ..AWAY
         };
@@ -743,7 +755,7 @@ fn odd_times(g: &mut Generator) -> Step {
             1 => g.random.pick(&[f32::NAN, f32::INFINITY, f32::NEG_INFINITY, -1.0, 1.0e30, 0.0, -0.0]),
             _ => g.random.between(0.0, 2.0),
         };
-        let volts = g.random.one_in(2).then_some(13.0);
+        let volts = g.random.one_in(2).then_some(19.5);
         let amps = g.random.one_in(2).then_some(40.0);
         let v = g.random.pick(&[[0.0; 3], [1.0, 0.0, 0.0]]);
         g.fly(&TickLine { dt, v, volts, amps, ..AWAY }, false)?;
@@ -772,14 +784,15 @@ fn every_event(g: &mut Generator) -> Step {
 
 /// A pack that turns critical in Rtl or on the way there, high or low, near home or not.
 fn critical_near_ground(g: &mut Generator) -> Step {
-    let o = plain(g);
+    let mut o = plain(g);
+    o.low_volts = g.low_volts(|_| PLAIN.low_volts);
     let mode = g.random.pick(&[Mode::Takeoff, Mode::Loiter, Mode::Mission, Mode::Rtl, Mode::Land, Mode::Armed]);
     enter(g, o, mode)?;
     let x = g.random.pick(&[0.0, 0.39, 5.0, 200.0]);
     for _ in 0..5 {
         let z = g.random.pick(&[0.1, 0.1499, 0.15, 5.0, 20.0]);
         let p = [o.home[0] + x, o.home[1], -z];
-        let volts = g.random.pick(&[13.3, 13.3, 13.9, 16.0]);
+        let volts = g.random.pick(&[19.95, 19.95, 20.85, 24.0]);
         let amps = g.random.one_in(3).then_some(2.0);
         let failed = g.random.one_in(8);
         g.fly(&TickLine { dt: 1.0, p, volts: Some(volts), amps, ..AWAY }, failed)?;

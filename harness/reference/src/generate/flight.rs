@@ -55,7 +55,7 @@ pub fn day(g: &mut Generator) -> Step {
         home,
         fence,
         cruise: g.random.pick(&[5.0, 8.0, 10.0, 12.5]),
-        low_volts: g.random.pick(&[14.0, 14.2, 14.8]),
+        low_volts: g.low_volts(|g| g.random.pick(&[21.0, 21.3, 22.2])),
         required,
         passed,
         calibrated: u32::from(!g.random.one_in(6)),
@@ -193,7 +193,7 @@ fn step(g: &mut Generator, craft: &mut Craft) -> Step {
     }
     let amps = if flying { g.random.between(12.0, 30.0) } else { 0.5 };
     if craft.trouble != Trouble::Silence {
-        let volts = 4.0 * (3.45 + 0.75 * craft.charge) - 0.02 * amps;
+        let volts = g.pack().cells as f32 * (3.45 + 0.75 * craft.charge) - 0.02 * amps;
         match craft.sense {
             Sense::None => {}
             Sense::Volts => tick.volts = Some(volts),

@@ -9,6 +9,7 @@ mod wild;
 
 use crate::falcon_core::FlightSupervisor;
 use crate::random::Random;
+use crate::relay_batt::BattConfig;
 use crate::relay_fsm::Mode;
 use crate::sheet::{write_fields, Shuttle};
 use std::fmt::{self, Display, Formatter};
@@ -21,6 +22,8 @@ const TOTALS_SEED: u64 = 7 << 32;
 const RECORDS_SEED: u64 = 8 << 32;
 /// Before an opening a line of kind 8 comes once in so many times.
 const RECORD_BEFORE_OPENING: u64 = 8;
+/// An opening's low volts as they were for four cells. With six they are accepted too: 2.33 V a cell.
+const FOR_FOUR_CELLS: f32 = 14.0;
 
 /// The sort of sheet.
 #[derive(Clone, Copy, Debug, PartialEq, Eq)]
@@ -346,5 +349,19 @@ impl Generator<'_> {
     /// The supervisor; only after an opening.
     pub fn supervisor(&self) -> &FlightSupervisor {
         self.shuttle.supervisor().expect("opened")
+    }
+
+    /// Low volts that `draw` gives, or once in ten times those for four cells.
+    fn low_volts(&mut self, draw: impl FnOnce(&mut Self) -> f32) -> f32 {
+        if self.random.one_in(10) {
+            FOR_FOUR_CELLS
+        } else {
+            draw(self)
+        }
+    }
+
+    /// The pack, with the cell count and the opening's thresholds; only after an opening.
+    pub fn pack(&self) -> BattConfig {
+        self.supervisor().batt_est.cfg
     }
 }

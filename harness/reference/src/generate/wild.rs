@@ -75,11 +75,11 @@ fn run(g: &mut Generator, wildness: u64) -> Step {
     match g.random.below(4) {
         0 => (tick.tilt, tick.volts, tick.dt) = (1.1, None, 0.0),
         1 => (tick.tilt, tick.motor, tick.volts, tick.dt) = (0.5, 1.0, None, 0.0),
-        2 => (tick.volts, tick.amps, tick.dt) = (Some(16.8), Some(500.0), 1.0),
+        2 => (tick.volts, tick.amps, tick.dt) = (Some(25.2), Some(500.0), 1.0),
         _ => {
             let brake = TickLine { v: [1.0; 3], ..tick };
             g.fly(&brake, false)?;
-            (tick.v, tick.dt, tick.tilt, tick.volts) = ([0.01; 3], 0.3, 0.0, Some(16.8));
+            (tick.v, tick.dt, tick.tilt, tick.volts) = ([0.01; 3], 0.3, 0.0, Some(25.2));
         }
     }
     let damage = std::mem::replace(&mut g.damage_one_in, 200);
@@ -118,7 +118,7 @@ fn opening(g: &mut Generator, wildness: u64) -> Step {
         home: [0, 1, 2].map(|_| mixed(g, wildness, -5.0, 5.0)),
         fence: mixed(g, wildness, 5.0, 300.0),
         cruise: mixed(g, wildness, 2.0, 40.0),
-        low_volts: mixed(g, wildness, 13.0, 15.0),
+        low_volts: g.low_volts(|g| mixed(g, wildness, 19.5, 22.5)),
         required: mask(g),
         passed: mask(g),
         calibrated: g.random.below(2) as u32,
@@ -128,11 +128,11 @@ fn opening(g: &mut Generator, wildness: u64) -> Step {
 
 fn tick(g: &mut Generator, wildness: u64) -> TickLine {
     let flag = |g: &mut Generator| u32::from(g.random.one_in(8));
-    let low = g.random.pick(&[12.0, 15.0, 15.0]);
+    let low = g.random.pick(&[18.0, 22.5, 22.5]);
     let (volts, amps) = match g.random.below(3) {
         0 => (None, None),
-        1 => (Some(mixed(g, wildness, low, 17.0)), None),
-        _ => (Some(mixed(g, wildness, low, 17.0)), Some(mixed(g, wildness, 0.0, 200.0))),
+        1 => (Some(mixed(g, wildness, low, 25.5)), None),
+        _ => (Some(mixed(g, wildness, low, 25.5)), Some(mixed(g, wildness, 0.0, 200.0))),
     };
     TickLine {
         dt: mixed(g, wildness, 0.0, 1.5),
