@@ -88,15 +88,43 @@ fn disturb(s: &mut FlightSupervisor, r: &mut Random) {
     s.batt_seen = flag(r);
 }
 
+/// The pack of an opening with these volts, by the Rust's constructor.
+fn opened_with(low: f32) -> BattConfig {
+    FlightSupervisor::with_core(FlightCore::default(), [0.0; 3], 0.0, 0.0, low, CheckTable::from_masks(0, 0)).batt_est.cfg
+}
+
+/// An opening has the thresholds that the Rust without patches 05 and 06 gives for two thirds of its volts: with 21.0 those of 14.0. The volts are
+/// multiples of 1/64, so that the product is exact and both quotients are the same number before rounding.
+fn openings() {
+    let sixty_fourths = 60 * 64;
+    for n in 0..=sixty_fourths {
+        let four = n as f32 / 64.0;
+        let pack = opened_with(four * 1.5);
+        let ours = [pack.cells, pack.low_v_cell_fallback.to_bits(), pack.crit_v_cell_fallback.to_bits()];
+        same("thresholds of an opening", four, ours, [6, (four / 4.0).to_bits(), (four / 4.0 - 0.15).to_bits()]);
+    }
+    println!("leaf: battery: {} openings of six cells with the thresholds of four cells at two thirds of the volts", sixty_fourths + 1);
+}
+
+/// A pack for an opening's volts, of any count of cells. The count is one for the thresholds and the readings.
+fn pack_for_opening(r: &mut Random) -> BattConfig {
+    let cells = match r.below(8) {
+        0..=2 => 6,
+        3 | 4 => 4,
+        5 | 6 => 1 + r.below(12) as u32,
+        _ => r.pick(&[0, 0, 16_777_217, r.clone().bits() as u32]),
+    };
+    let count = cells as f32;
+    let low = if r.one_in(8) { any(r) } else { count * r.between(3.0, 4.0) };
+    BattConfig { cells, low_v_cell_fallback: low / count, crit_v_cell_fallback: low / count - 0.15, ..BattConfig::default() }
+}
+
 /// The built-in pack, one for an opening's volts, another plausible one, or any.
 fn pack(r: &mut Random) -> BattConfig {
     let built_in = BattConfig::default();
     match r.below(10) {
         0..=2 => built_in,
-        3 | 4 => {
-            let low = if r.one_in(8) { any(r) } else { r.between(12.0, 16.0) };
-            BattConfig { low_v_cell_fallback: low / 4.0, crit_v_cell_fallback: low / 4.0 - 0.15, ..built_in }
-        }
+        3 | 4 => pack_for_opening(r),
         5..=7 => BattConfig {
             capacity_mah: r.between(1.0, 12000.0),
             cells: r.below(13) as u32,
@@ -109,7 +137,7 @@ fn pack(r: &mut Random) -> BattConfig {
         },
         _ => BattConfig {
             capacity_mah: any(r),
-            cells: r.pick(&[0, 1, 4, 16_777_217, u32::MAX, r.clone().bits() as u32]),
+            cells: r.pick(&[0, 1, 4, 6, 16_777_217, u32::MAX, r.clone().bits() as u32]),
             r_internal: any(r),
             low_soc: any(r),
             crit_soc: any(r),
@@ -170,6 +198,8 @@ fn amps(r: &mut Random, before: f32) -> f32 {
 #[derive(Default)]
 struct Met {
     packs: u64,
+    four_cells: u64,
+    six_cells: u64,
     disturbed: u64,
     readings: [u64; 3],
     low: u64,
@@ -197,6 +227,8 @@ fn run(s: &mut FlightSupervisor, r: &mut Random, met: &mut Met, left: u64) -> u6
     same("battery_new, answer", cfg, proved::battery_new(&mut ours), 0);
     same("battery_new", cfg, ours, numbers_of(s));
     met.packs += 1;
+    met.four_cells += u64::from(cfg.cells == 4);
+    met.six_cells += u64::from(cfg.cells == 6);
     if r.one_in(4) {
         disturb(s, r);
         ours = numbers_of(s);
@@ -248,6 +280,7 @@ fn kinds() {
 
 /// Lists of steps from random packs.
 pub fn steps(count: u64) {
+    openings();
     lengths();
     kinds();
     let table = CheckTable::from_masks(0, 0);
@@ -261,7 +294,15 @@ pub fn steps(count: u64) {
     let [nothing, volts, amps] = met.readings;
     println!("leaf: battery: {done} steps ({nothing} of nothing, {volts} of volts, {amps} of volts and amps), 29 numbers after each");
     println!(
-        "leaf: battery: {} packs, {} lists from a disturbed state; low tripped {} times, critical {}, resistance moved {}, a NaN in the state {}",
-        met.packs, met.disturbed, met.low, met.critical, met.resistance, met.nan
+        "leaf: battery: {} packs ({} of four cells, {} of six, {} of others), {} lists from a disturbed state; low tripped {} times, critical {}, resistance moved {}, a NaN in the state {}",
+        met.packs,
+        met.four_cells,
+        met.six_cells,
+        met.packs - met.four_cells - met.six_cells,
+        met.disturbed,
+        met.low,
+        met.critical,
+        met.resistance,
+        met.nan
     );
 }

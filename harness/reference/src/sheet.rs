@@ -285,7 +285,7 @@ impl Totals {
 }
 
 /// One shuttle: its supervisor once opened, while a report is due what the report needs, the day totals, and the opening's low volts. The Rust
-/// keeps of those their quarter, and that less 0.15: for volts close to 0 the quarter is rounded, and several volts have the same.
+/// keeps of those the quotient by the cell count, and that less 0.15: the quotient is rounded, so that different volts can have the same.
 #[derive(Default)]
 pub struct Shuttle {
     supervisor: Option<FlightSupervisor>,

@@ -25,7 +25,7 @@ const EVENTS: [&str; 12] = [
 /// Branches that no sheet reaches, and why.
 const UNREACHABLE: [(&str, &str); 11] = [
     ("fsm: RequestTakeoff, position: false", "only the report is without a position, and it gives Failsafe"),
-    ("battery: no cells: true", "the cell count is 4"),
+    ("battery: no cells: true", "the cell count is 6"),
     ("rank: Terminated", "ranks are asked only while airborne"),
     ("checks: battery critical and not low: true", "critical implies low"),
     ("checks: neither low nor critical: false", "critical implies low"),

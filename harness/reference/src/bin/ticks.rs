@@ -18,7 +18,7 @@ fn tick_at(i: u32) -> Tick {
         dt: 0.02,
         core: CoreInputs { nav: NavState { p, v: [0.5, -0.25, 0.0], tilt: 0.1 }, uncertainty: 0.01, motor: 0.6, ..CoreInputs::default() },
         rpm: true,
-        volts: Some(15.2),
+        volts: Some(22.8),
         amps: Some(12.0),
     }
 }
@@ -46,7 +46,7 @@ fn main() {
     let mut sum = 0;
     for _ in 0..DAYS {
         let mut supervisor =
-            open(Opening { home: [0.0; 3], fence: 100.0, cruise: 10.0, low_volts: 14.0, required: 0, passed: 0, calibrated: true });
+            open(Opening { home: [0.0; 3], fence: 100.0, cruise: 10.0, low_volts: 21.0, required: 0, passed: 0, calibrated: true });
         supervisor.set_mission_waypoints(&[[15.0, 1.0, -10.0], [0.0, 7.5, -10.0]]);
         supervisor.set_keepout_zones(&[KeepoutZone { center: [9.0, 3.0, 0.0], radius: 2.0 }]);
         supervisor.command(Event::Arm, true, true);
