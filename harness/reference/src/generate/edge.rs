@@ -392,8 +392,9 @@ fn volts_at(g: &mut Generator, least: f32, most: f32, limit: f32) -> f32 {
 
 fn volts_only(g: &mut Generator) -> Step {
     let mut o = plain(g);
-    let no_critical = float::boundary(&mut g.random, 0.0, 3.0, |low_volts| pack_of(low_volts).crit_v_cell_fallback < 0.0);
-    o.low_volts = g.random.pick(&[21.0, 22.2, 21.3, FOR_FOUR_CELLS, no_critical, no_critical, 0.0, -1.0, 60.0, 60.5, 360.0, f32::NAN]);
+    let critical_at_zero = float::boundary(&mut g.random, 0.0, 3.0, |low_volts| pack_of(low_volts).crit_v_cell_fallback < 0.0);
+    o.low_volts =
+        g.random.pick(&[21.0, 22.2, 21.3, FOR_FOUR_CELLS, critical_at_zero, critical_at_zero, 0.0, -1.0, 60.0, 60.5, 360.0, f32::NAN]);
     if g.random.one_in(2) {
         o.low_volts = g.random.between(18.0, 24.0);
     }
