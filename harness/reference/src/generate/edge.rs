@@ -40,7 +40,9 @@ pub fn scenario(g: &mut Generator) -> Step {
         26 => volts_shown(g),
         27 => critical_near_ground(g),
         28 => {
-            let cruise = g.random.between(0.0, 60.0);
+            // Heights 0.2 below a cruise height just above a power of two have a finer step than it, so that h > cruise - 0.2 and h + 0.2 > cruise differ.
+            let power = g.random.pick(&[4.0, 8.0, 16.0, 32.0]);
+            let cruise = if g.random.one_in(2) { power + g.random.between(0.0, 0.2) } else { g.random.between(0.0, 60.0) };
             takeoff_height(g, OpeningLine { cruise, ..PLAIN })
         }
         29 => far_points(g),
