@@ -11,12 +11,13 @@ use reference::relay_batt::{BattConfig, BattState, BatteryEstimator, TripLatch};
 use reference::relay_preflight::CheckTable;
 use reference::sheet::{answer_bits, Tick};
 
+/// The pack's numbers are the first of a battery's.
+const PACK_SIZE: usize = 8;
+
 type Numbers = [u32; BATTERY_SIZE];
 
-/// The numbers of the Rust's battery, in the order of crates/exports.
-fn numbers_of(s: &FlightSupervisor) -> Numbers {
-    let (e, b) = (&s.batt_est, &s.batt_state);
-    let c = &e.cfg;
+/// The numbers of a pack, in the order of crates/exports.
+fn pack_numbers(c: &BattConfig) -> [u32; PACK_SIZE] {
     let f = answer_bits;
     [
         f(c.capacity_mah),
@@ -27,6 +28,23 @@ fn numbers_of(s: &FlightSupervisor) -> Numbers {
         f(c.low_v_cell_fallback),
         f(c.crit_v_cell_fallback),
         f(c.debounce_s),
+    ]
+}
+
+/// The numbers of the Rust's battery, in the order of crates/exports.
+fn numbers_of(s: &FlightSupervisor) -> Numbers {
+    let (e, b) = (&s.batt_est, &s.batt_state);
+    let f = answer_bits;
+    let [capacity_mah, cells, r_internal, low_soc, crit_soc, low_v, crit_v, debounce_s] = pack_numbers(&e.cfg);
+    [
+        capacity_mah,
+        cells,
+        r_internal,
+        low_soc,
+        crit_soc,
+        low_v,
+        crit_v,
+        debounce_s,
         f(e.consumed_mah),
         f(e.r_est),
         f(e.prev_v),
@@ -88,35 +106,61 @@ fn disturb(s: &mut FlightSupervisor, r: &mut Random) {
     s.batt_seen = flag(r);
 }
 
-/// The pack of an opening with these volts, by the Rust's constructor.
-fn opened_with(low: f32) -> BattConfig {
-    FlightSupervisor::with_core(FlightCore::default(), [0.0; 3], 0.0, 0.0, low, CheckTable::from_masks(0, 0)).batt_est.cfg
+/// The built-in pack of so many cells at an opening's volts: one count for both thresholds and the readings, of which `update` takes 0 as 1.
+fn pack_at(cells: u32, low: f32) -> BattConfig {
+    let count = cells.max(1) as f32;
+    BattConfig { cells, low_v_cell_fallback: low / count, crit_v_cell_fallback: low / count - 0.15, ..BattConfig::default() }
 }
 
-/// An opening has the thresholds that the Rust without patches 05 and 06 gives for two thirds of its volts: with 21.0 those of 14.0. The volts are
-/// multiples of 1/64, so that the product is exact and both quotients are the same number before rounding.
-fn openings() {
-    let sixty_fourths = 60 * 64;
-    for n in 0..=sixty_fourths {
-        let four = n as f32 / 64.0;
-        let pack = opened_with(four * 1.5);
-        let ours = [pack.cells, pack.low_v_cell_fallback.to_bits(), pack.crit_v_cell_fallback.to_bits()];
-        same("thresholds of an opening", four, ours, [6, (four / 4.0).to_bits(), (four / 4.0 - 0.15).to_bits()]);
-    }
-    println!("leaf: battery: {} openings of six cells with the thresholds of four cells at two thirds of the volts", sixty_fourths + 1);
-}
-
-/// A pack for an opening's volts, of any count of cells. The count is one for the thresholds and the readings.
-fn pack_for_opening(r: &mut Random) -> BattConfig {
+/// A count of cells, and an opening's volts for it.
+fn opening(r: &mut Random) -> (u32, f32) {
     let cells = match r.below(8) {
         0..=2 => 6,
         3 | 4 => 4,
         5 | 6 => 1 + r.below(12) as u32,
         _ => r.pick(&[0, 0, 16_777_217, r.clone().bits() as u32]),
     };
-    let count = cells as f32;
-    let low = if r.one_in(8) { any(r) } else { count * r.between(3.0, 4.0) };
-    BattConfig { cells, low_v_cell_fallback: low / count, crit_v_cell_fallback: low / count - 0.15, ..BattConfig::default() }
+    let low = if r.one_in(8) { any(r) } else { cells.max(1) as f32 * r.between(3.0, 4.0) };
+    (cells, low)
+}
+
+/// The pack that the proved function opens with.
+fn proved_pack(r: &mut Random, cells: u32, low: f32) -> [u32; PACK_SIZE] {
+    let mut ours = [r.bits() as u32; BATTERY_SIZE];
+    same("battery_opened, answer", (cells, low), proved::battery_opened(&mut ours, cells, low.to_bits()), 0);
+    let mut again = ours;
+    proved::battery_new(&mut again);
+    same("battery_opened, behind the pack", (cells, low), ours, again);
+    ours[..PACK_SIZE].try_into().unwrap()
+}
+
+/// An opening's pack: with six cells that of the Rust's constructor, with four that of docs/src, where patches 05 and 06 are not, and with any count
+/// the same expressions over it. An opening of six cells has the thresholds of four at two thirds of the volts: these are multiples of 1/64, so that
+/// the product is exact and both quotients are one number before rounding; 21.0 and 14.0 are among them.
+fn openings(r: &mut Random, count: u64) {
+    let table = CheckTable::from_masks(0, 0);
+    let constructed = |low: f32| FlightSupervisor::with_core(FlightCore::default(), [0.0; 3], 0.0, 0.0, low, table).batt_est.cfg;
+    let of_four =
+        |low: f32| BattConfig { cells: 4, low_v_cell_fallback: low / 4.0, crit_v_cell_fallback: low / 4.0 - 0.15, ..BattConfig::default() };
+    for _ in 0..count {
+        let (cells, low) = opening(r);
+        let rust = match cells {
+            6 => constructed(low),
+            4 => of_four(low),
+            _ => pack_at(cells, low),
+        };
+        same("battery_opened", (cells, low), proved_pack(r, cells, low), pack_numbers(&rust));
+    }
+    let sixty_fourths = 60 * 64;
+    for n in 0..=sixty_fourths {
+        let low = n as f32 / 64.0;
+        let six = BattConfig { cells: 6, ..of_four(low) };
+        same("thresholds of six cells and of four", low, proved_pack(r, 6, low * 1.5), pack_numbers(&six));
+    }
+    println!(
+        "leaf: battery: {count} openings with any count of cells, {} of six cells with the thresholds of four at two thirds of the volts",
+        sixty_fourths + 1
+    );
 }
 
 /// The built-in pack, one for an opening's volts, another plausible one, or any.
@@ -124,7 +168,10 @@ fn pack(r: &mut Random) -> BattConfig {
     let built_in = BattConfig::default();
     match r.below(10) {
         0..=2 => built_in,
-        3 | 4 => pack_for_opening(r),
+        3 | 4 => {
+            let (cells, low) = opening(r);
+            pack_at(cells, low)
+        }
         5..=7 => BattConfig {
             capacity_mah: r.between(1.0, 12000.0),
             cells: r.below(13) as u32,
@@ -258,6 +305,7 @@ fn lengths() {
         let before = numbers.clone();
         let short = u32::from(n < BATTERY_SIZE);
         same("battery_new, length", n, proved::battery_new(&mut numbers), short);
+        same("battery_opened, length", n, proved::battery_opened(&mut numbers, 6, 0x41a8_0000), short);
         same("battery_update, length", n, proved::battery_update(&mut numbers, 0, 2, 0x4170_0000, 0x4120_0000), short);
         let kept = if short == 1 { 0 } else { BATTERY_SIZE };
         same("battery, other numbers", n, &numbers[kept.min(n)..], &before[kept.min(n)..]);
@@ -280,12 +328,12 @@ fn kinds() {
 
 /// Lists of steps from random packs.
 pub fn steps(count: u64) {
-    openings();
+    let mut r = Random::new(4);
+    openings(&mut r, count / 10);
     lengths();
     kinds();
     let table = CheckTable::from_masks(0, 0);
     let mut s = FlightSupervisor::with_core(FlightCore::default(), [0.0; 3], 0.0, 0.0, 0.0, table);
-    let mut r = Random::new(4);
     let mut met = Met::default();
     let mut done = 0;
     while done < count {

@@ -24,6 +24,7 @@ mod linked {
         pub fn bartsemmo_outstanding(required: u32, passed: u32) -> u32;
         pub fn bartsemmo_blocker(required: u32, passed: u32) -> u32;
         pub fn bartsemmo_battery_new(numbers: *mut u32, length: usize) -> u32;
+        pub fn bartsemmo_battery_opened(numbers: *mut u32, length: usize, cells: u32, volts: u32) -> u32;
         pub fn bartsemmo_battery_update(numbers: *mut u32, length: usize, dt: u32, kind: u32, volts: u32, amps: u32) -> u32;
     }
 }
@@ -61,6 +62,12 @@ safe! {
 pub fn battery_new(numbers: &mut [u32]) -> u32 {
     // SAFETY: total, and touches the slice alone.
     unsafe { linked::bartsemmo_battery_new(numbers.as_mut_ptr(), numbers.len()) }
+}
+
+/// `Battery::new` for the built-in pack with so many cells, at an opening's volts; 0, or 1 where the slice has under 29 numbers, which are then as they were.
+pub fn battery_opened(numbers: &mut [u32], cells: u32, volts: u32) -> u32 {
+    // SAFETY: total, and touches the slice alone.
+    unsafe { linked::bartsemmo_battery_opened(numbers.as_mut_ptr(), numbers.len(), cells, volts) }
 }
 
 /// `Battery::update`, with a reading of kind 0 nothing, 1 volts, any other volts and amps; 0, or 1 where the slice has under 29 numbers, which are then as they were.
