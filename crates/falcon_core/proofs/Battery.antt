@@ -48,17 +48,17 @@ module _ (s : Supervisor) (t : Tick) (volts : Float) (k : OwnPack (s .flight)) (
   abbrev b : Battery
   b = s .flight .battery
 
-  abbrev reading : Float
-  reading = perCellOf (b .est .cfg .cells) (cutVolts volts)
+  abbrev cell : Float
+  cell = perCellOf (b .est .cfg .cells) (cutVolts volts)
 
-  abbrev opening : Float
-  opening = perCellOf (b .est .cfg .cells) (s .flight .config .«low_batt_v»)
+  abbrev limit : Float
+  limit = perCellOf (b .est .cfg .cells) (s .flight .config .«low_batt_v»)
 
-  pub tick-low-by-volts : afterOf s (ticks t) .flight .battery .est .low ≡ tripOf (b .est .low) (cutDt (t .dt)) (lt reading opening) debounceS
+  pub tick-low-by-volts : afterOf s (ticks t) .flight .battery .est .low ≡ tripOf (b .est .low) (cutDt (t .dt)) (lt cell limit) debounceS
   unfolding afterOf flightAfter
   tick-low-by-volts = rw (tick-battery (s .flight) (legsIn s) t, e) (low-by-volts _ _ b (k .made) (t .dt) volts)
 
-  pub tick-critical-by-volts : afterOf s (ticks t) .flight .battery .est .critical ≡ tripOf (b .est .critical) (cutDt (t .dt)) (lt reading (sub binary32 opening (f32 0x3e19_999a))) debounceS
+  pub tick-critical-by-volts : afterOf s (ticks t) .flight .battery .est .critical ≡ tripOf (b .est .critical) (cutDt (t .dt)) (lt cell (sub binary32 limit (f32 0x3e19_999a))) debounceS
   unfolding afterOf flightAfter
   tick-critical-by-volts = rw (tick-battery (s .flight) (legsIn s) t, e) (critical-by-volts _ _ b (k .made) (t .dt) volts)
 

@@ -70,15 +70,15 @@ module _ (cells : ℕ) (opening : Float) (b : Battery) (k : b .est .cfg ≡ forP
 abbrev thresholds : ℕ → Float → ℕ × ℕ
 thresholds cells volts = let cfg = forPackOf cells volts in (toBits binary32 (cfg .«low_v_cell_fallback»), toBits binary32 (cfg .«crit_v_cell_fallback»))
 
-six-cells : thresholds 6 (f32 0x41a8_0000) ≡ (0x4060_0000, 0x4056_6666)
+six-at-21 : thresholds 6 (f32 0x41a8_0000) ≡ (0x4060_0000, 0x4056_6666)
 unfolding forPackOf perCellOf cellsOf ofBits ofInt div sub toBits
-six-cells = refl
+six-at-21 = refl
 
-four-cells : thresholds 4 (f32 0x4160_0000) ≡ (0x4060_0000, 0x4056_6666)
+four-at-14 : thresholds 4 (f32 0x4160_0000) ≡ (0x4060_0000, 0x4056_6666)
 unfolding forPackOf perCellOf cellsOf ofBits ofInt div sub toBits
-four-cells = refl
+four-at-14 = refl
 
 -- an opening left at 14.0: 2.33 and 2.18 V a cell
-left-at-14 : thresholds 6 (f32 0x4160_0000) ≡ (0x4015_5555, 0x400b_bbbb)
+six-at-14 : thresholds 6 (f32 0x4160_0000) ≡ (0x4015_5555, 0x400b_bbbb)
 unfolding forPackOf perCellOf cellsOf ofBits ofInt div sub toBits
-left-at-14 = refl
+six-at-14 = refl

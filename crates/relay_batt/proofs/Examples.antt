@@ -32,10 +32,10 @@ unfolding bigStepOf ofBits le neg
 step-nan = refl
 
 -- "after one reading, silence 0.5 + 0.5 isn't lost, a third 0.5 is"
-silence : lostOf (runOf (openedOf defaultOf) (record { dt = f32 0x3f00_0000; reading = Volts (f32 0x4170_0000) } ∷ record { dt = f32 0x3f00_0000; reading = Nothing } ∷ record { dt = f32 0x3f00_0000; reading = Nothing } ∷ [])) ≡ false
+silence : lostOf (runOf (openedOf defaultOf) (record { dt = f32 0x3f00_0000; reading = Volts (f32 0x41b4_0000) } ∷ record { dt = f32 0x3f00_0000; reading = Nothing } ∷ record { dt = f32 0x3f00_0000; reading = Nothing } ∷ [])) ≡ false
 unfolding lostOf runOf openedOf updateOf heardOf ofBits add lt
 silence = refl
 
-silence-3 : lostOf (runOf (openedOf defaultOf) (record { dt = f32 0x3f00_0000; reading = Volts (f32 0x4170_0000) } ∷ record { dt = f32 0x3f00_0000; reading = Nothing } ∷ record { dt = f32 0x3f00_0000; reading = Nothing } ∷ record { dt = f32 0x3f00_0000; reading = Nothing } ∷ [])) ≡ true
+silence-3 : lostOf (runOf (openedOf defaultOf) (record { dt = f32 0x3f00_0000; reading = Volts (f32 0x41b4_0000) } ∷ record { dt = f32 0x3f00_0000; reading = Nothing } ∷ record { dt = f32 0x3f00_0000; reading = Nothing } ∷ record { dt = f32 0x3f00_0000; reading = Nothing } ∷ [])) ≡ true
 unfolding lostOf runOf openedOf updateOf heardOf ofBits add lt
 silence-3 = refl

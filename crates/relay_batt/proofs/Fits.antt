@@ -2,7 +2,7 @@
 use Prim.Native.Nat.{ℕ}
 use mathlib.Core.Bool.{Bool, _&&_, cond}
 use mathlib.Core.List.{List, [], _∷_}
-use lib.Ieee.{Float, binary32, sub, div, le, lt}
+use lib.Ieee.{Float, binary32, sub, le, lt}
 use lib.Ieee.Bits.{ofBits-fits}
 use lib.Ieee.Fits.{cond-fits, add-fits, sub-fits, div-fits}
 use lib.Ieee.Scale.{finite}

@@ -1,4 +1,4 @@
--- Volts at least the opening's are not below them, whatever the cell count. Assumes nothing.
+-- Volts of 0 to 60 that are at least the opening's, itself not negative, are not below it, whatever the cell count. Assumes nothing.
 use mathlib.Core.Path.{_≡_, sym, ap, _∙_, subst}
 use mathlib.Core.Bool.{false}
 use Prim.Native.Nat.{ℕ, zero, suc, _*_, _^_, _≤_, _<_}
@@ -72,7 +72,7 @@ le-not-lt : {x y : Float} → NonNeg x → NonNeg y → T (le x y) → lt y x �
 unfolding lt
 le-not-lt (plus m e) (plus n d) h = le-ltb _ _ (le→cross (plus m e) (plus n d) h)
 
--- one count divides both, so volts at least the opening's never count as below
+-- one count divides both
 pub at-least-not-below :
     (cells : ℕ) (opening volts : Float) → cells < 2 ^ 32 → T (nonneg opening) → T (nonneg volts) → T (le volts vMax) → T (le opening volts) →
     lt (perCellOf cells volts) (perCellOf cells opening) ≡ false

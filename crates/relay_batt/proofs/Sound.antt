@@ -6,7 +6,7 @@ use Prim.Native.Nat.{ℕ, zero, suc, _*_, _<_}
 use native.Mathlib.Nat.{mul-pos, zero-lt-suc}
 use native.Mathlib.Omega.{arith}
 use lib.Dec.{T, eqb, eqb→eq}
-use lib.Ieee.{Float, nan, inf, fin, binary32, ofBits, fits, up, down, sub, div, lt, le}
+use lib.Ieee.{Float, nan, inf, fin, binary32, ofBits, fits, up, down, sub, lt, le}
 use lib.Ieee.Fits.{up-pos, down-pos, and-r, add-fits}
 use lib.Ieee.Scale.{finite}
 use Rattle.relay_math.specs.Small.{clampOf}

@@ -1,4 +1,4 @@
--- `BattConfig` of relay-batt, and the thresholds that `with_core` sets.
+-- `BattConfig` of relay-batt, and the one that an opening's volts give.
 use mathlib.Core.Path.{_≡_}
 use Prim.Native.Nat.{ℕ, _<_, _^_}
 use mathlib.Core.Bool.{cond}
@@ -64,12 +64,12 @@ forPackOf cells volts =
       «debounce_s» = defaultOf .«debounce_s»;
     }
 
--- the configuration is the one that opening volts give for its own cells
+-- the configuration is the one that opening volts give for its own cell count, a u32
 pub record FromPack (cfg : BattConfig) (volts : Float) : Type 0 where
   pub made : cfg ≡ forPackOf (cfg .cells) volts
   pub cells-below : cfg .cells < 2 ^ 32
 
--- the configuration of `with_core`
+-- the configuration that an opening sets: the default's cell count
 abbrev pub forOpeningVoltsOf : Float → BattConfig
 forOpeningVoltsOf volts = forPackOf packCells volts
 

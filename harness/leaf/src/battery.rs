@@ -306,7 +306,7 @@ fn lengths() {
         let short = u32::from(n < BATTERY_SIZE);
         same("battery_new, length", n, proved::battery_new(&mut numbers), short);
         same("battery_opened, length", n, proved::battery_opened(&mut numbers, 6, 0x41a8_0000), short);
-        same("battery_update, length", n, proved::battery_update(&mut numbers, 0, 2, 0x4170_0000, 0x4120_0000), short);
+        same("battery_update, length", n, proved::battery_update(&mut numbers, 0, 2, 0x41b4_0000, 0x4120_0000), short);
         let kept = if short == 1 { 0 } else { BATTERY_SIZE };
         same("battery, other numbers", n, &numbers[kept.min(n)..], &before[kept.min(n)..]);
     }
@@ -318,7 +318,7 @@ fn kinds() {
     proved::battery_new(&mut opened);
     let after = |kind: u32| {
         let mut numbers = opened;
-        proved::battery_update(&mut numbers, 0x3f80_0000, kind, 0x4170_0000, 0x4120_0000);
+        proved::battery_update(&mut numbers, 0x3f80_0000, kind, 0x41b4_0000, 0x4120_0000);
         numbers
     };
     for kind in [3, 255, 256, u32::MAX] {
