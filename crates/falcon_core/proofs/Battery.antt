@@ -1,11 +1,11 @@
--- The battery of a state that calls lead to: its configuration is the opening's, and a sound one is within document 01's bounds.
+-- The battery of a state that calls lead to: its configuration is what the opening's volts give for its own cells, volts alone are compared by the same count, and a sound
+-- battery is within document 01's bounds.
 use mathlib.Core.Path.{_≡_, _∙_, ap}
 use lib.Dec.{lit<}
 use lib.Ieee.{Float, binary32, sub, lt}
 use Rattle.relay_batt.specs.declared.battery.Battery.{Battery}
 use Rattle.relay_batt.specs.declared.battery.Reading.the-variants.{Volts}
-use Rattle.relay_batt.specs.Curve.{f32}
-use Rattle.relay_batt.specs.Config.{packCells, capacityOf, capacityMah, debounceS, perCellOf, FromPack}
+use Rattle.relay_batt.specs.Config.{packCells, capacityOf, capacityMah, debounceS, perCellOf, critBelowLow, FromPack}
 use Rattle.relay_batt.specs.Latch.{tripOf}
 use Rattle.relay_batt.specs.Estimator.{cutDt, cutVolts}
 use Rattle.relay_batt.specs.Sound.{Sound as SoundBattery, InBounds}
@@ -58,7 +58,7 @@ module _ (s : Supervisor) (t : Tick) (volts : Float) (k : OwnPack (s .flight)) (
   unfolding afterOf flightAfter
   tick-low-by-volts = rw (tick-battery (s .flight) (legsIn s) t, e) (low-by-volts _ _ b (k .made) (t .dt) volts)
 
-  pub tick-critical-by-volts : afterOf s (ticks t) .flight .battery .est .critical ≡ tripOf (b .est .critical) (cutDt (t .dt)) (lt cell (sub binary32 limit (f32 0x3e19_999a))) debounceS
+  pub tick-critical-by-volts : afterOf s (ticks t) .flight .battery .est .critical ≡ tripOf (b .est .critical) (cutDt (t .dt)) (lt cell (sub binary32 limit critBelowLow)) debounceS
   unfolding afterOf flightAfter
   tick-critical-by-volts = rw (tick-battery (s .flight) (legsIn s) t, e) (critical-by-volts _ _ b (k .made) (t .dt) volts)
 

@@ -6,7 +6,7 @@ use lib.IntN.{pos}
 use lib.Dec.{eqb·suc-zero}
 use lib.Ieee.{Float, binary32, ofBits, toBits, ofInt, sub, div, lt}
 use Rattle.relay_batt.specs.Curve.{f32, ocvSocCellOf}
-use Rattle.relay_batt.specs.Config.{debounceS, defaultOf, cellsOf, perCellOf, forPackOf, FromPack, forOpeningVoltsOf}
+use Rattle.relay_batt.specs.Config.{debounceS, defaultOf, cellsOf, perCellOf, critBelowLow, forPackOf, FromPack, forOpeningVoltsOf}
 use Rattle.relay_batt.specs.Latch.{tripOf}
 use Rattle.relay_batt.specs.Estimator.{newOf, shownOf, socCoulombOf, socOf, withAmpsOf, voltsOnlyOf, cutDt, cutVolts, updateAmpsOf, updateVoltsOf}
 use Rattle.relay_batt.specs.Battery.{openedOf, heardOf, updateOf}
@@ -49,7 +49,7 @@ module _ (cells : ℕ) (opening : Float) (b : Battery) (k : b .est .cfg ≡ forP
   unfolding updateOf heardOf updateVoltsOf voltsOnlyOf forPackOf defaultOf
   low-by-volts = simp (k)
 
-  pub critical-by-volts : updateOf b dt (Volts volts) .est .critical ≡ tripOf (b .est .critical) (cutDt dt) (lt (perCellOf cells (cutVolts volts)) (sub binary32 (perCellOf cells opening) (f32 0x3e19_999a))) debounceS
+  pub critical-by-volts : updateOf b dt (Volts volts) .est .critical ≡ tripOf (b .est .critical) (cutDt dt) (lt (perCellOf cells (cutVolts volts)) (sub binary32 (perCellOf cells opening) critBelowLow)) debounceS
   unfolding updateOf heardOf updateVoltsOf voltsOnlyOf forPackOf defaultOf
   critical-by-volts = simp (k)
 
