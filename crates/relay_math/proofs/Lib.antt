@@ -1,9 +1,14 @@
+pub mod AsRound
 pub mod Examples
 pub mod Laws
+pub mod Nearer
 pub mod Nearest
 pub mod Order
 pub mod Patterns
+pub mod RootLaws
 pub mod Rounding
+pub mod Scale
 pub mod Small
+pub mod Special
 pub mod Squares
 pub mod WholeRoot

@@ -1,4 +1,4 @@
--- For every n the rounded root is within half a unit in the last place of √n. Assumes nothing.
+-- For every n and k the whole number nearest to √n / 2 ^ k is within a half of it. Assumes nothing.
 use mathlib.Core.Path.{_≡_, sym, ap, _∙_, subst}
 use mathlib.Core.Bool.{not}
 use Prim.Native.Nat.{ℕ, zero, suc, _+_, _-_, _*_, _/_, _%_, _^_, _≤_, _<_, compare, Ordering, Ordering·lt, Ordering·eq, Ordering·gt}
@@ -8,17 +8,17 @@ use native.Mathlib.Omega.{arith}
 use lib.Dec.{T, eqb, eqb→eq, lit<, isLe, isEq, leb→le, nleb→lt, eqb-refl}
 use lib.Arith.{lt-of-le-ne}
 use lib.Pow.{pow-pos}
-use lib.Ieee.{Format, nearest}
-use Rattle.relay_math.specs.Root.{wholeRoot, dropped, rounded}
+use lib.Ieee.{nearest}
+use Rattle.relay_math.specs.Root.{wholeRoot, nearestRoot}
 use Rattle.relay_math.proofs.WholeRoot.{wholeRoot-is}
 
 -- what an Ordering says
-abbrev Cmp : Ordering → ℕ → ℕ → Type 0
+abbrev pub Cmp : Ordering → ℕ → ℕ → Type 0
 Cmp Ordering·lt a b = a < b
 Cmp Ordering·eq a b = a ≡ b
 Cmp Ordering·gt a b = b < a
 
-cmp : (a b : ℕ) → Cmp (compare a b) a b
+pub cmp : (a b : ℕ) → Cmp (compare a b) a b
 cmp a b = go (compare a b) (leb→le a b) (nleb→lt a b) (eqb→eq a b) (λ (e : a ≡ b). subst (λ (x : ℕ). T (eqb a x)) e (eqb-refl a))
   where
     go : (o : Ordering) → (T (isLe o) → a ≤ b) → (T (not (isLe o)) → b < a) → (T (isEq o) → a ≡ b) → (a ≡ b → T (isEq o)) → Cmp o a b
@@ -63,16 +63,16 @@ module _ (n q p : ℕ) (low : q * p * (q * p) ≤ n) (high : n < (q + 1) * p * (
       go (suc zero) k = within-high (le-of-eq (sym h))
       go (suc (suc z)) k = absurd (omega arith)
 
--- for every n the rounded root is within half a unit in the last place of √n
-pub root-nearest : (f : Format) (n : ℕ) → Within n (rounded f n) (2 ^ dropped f n)
-unfolding rounded
-root-nearest f n =
-    let p = 2 ^ dropped f n in
+-- for every n and k the nearest whole number is within half a unit 2 ^ k of √n
+pub root-nearest : (n k : ℕ) → Within n (nearestRoot n k) (2 ^ k)
+unfolding nearestRoot
+root-nearest n k =
+    let p = 2 ^ k in
     let w = wholeRoot n in
     let q = w / p in
     let r = wholeRoot-is n in
     let l : q * p ≤ w = div-mul-le-self w p in
-    let u : w < (q + 1) * p = lt-of-lt-of-le (lt-div-mul-add (pow-pos (dropped f n))) (le-of-eq (sym (suc-mul q p) ∙ ap (λ (x : ℕ). x * p) (sym (add-one q)))) in
+    let u : w < (q + 1) * p = lt-of-lt-of-le (lt-div-mul-add (pow-pos k)) (le-of-eq (sym (suc-mul q p) ∙ ap (λ (x : ℕ). x * p) (sym (add-one q)))) in
     let u' : w + 1 ≤ (q + 1) * p = le-trans (le-of-eq (add-one w)) u in
     let h = (2 * q + 1) * p in
     within n q p (le-trans (mul-le-mul l l) (r .0)) (lt-of-lt-of-le (r .1) (mul-le-mul u' u')) (compare (4 * n) (h * h)) (cmp (4 * n) (h * h))

@@ -1,23 +1,22 @@
--- Which rule of the root a pattern falls under, and the radicand of a pattern above zero. Assumes nothing.
-use mathlib.Core.Path.{_≡_, refl, sym, ap, _∙_}
-use mathlib.Core.Bool.{Bool, true, false, cond}
+-- The value of a pattern between zero and infinity, and the pattern of an operand above zero. Assumes nothing.
+use mathlib.Core.Path.{_≡_, refl, sym, ap, _∙_, subst}
+use mathlib.Core.Bool.{Bool, true, false, _&&_, cond}
 use Prim.Native.Nat.{ℕ, zero, suc, _+_, _-_, _*_, _/_, _%_, _^_, _≤_, _<_}
-use native.Mathlib.Nat.{le-trans, le-of-eq, le-of-lt, lt-of-lt-of-le, lt-of-le-of-lt, lt-of-not-le, not-le-of-lt, add-sub-of-le, mod-eq-of-lt, mul-assoc, mul-pos, zero-mul, mul-le-mul-right, mul-lt-mul-of-pos-right, mul-div-cancel}
-use native.Mathlib.Decide.{decLe}
+use native.Mathlib.Nat.{le-trans, le-of-eq, le-of-lt, lt-of-lt-of-le, lt-of-le-of-lt, lt-of-not-le, not-le-of-lt, zero-lt-suc, add-sub-of-le, mod-eq-of-lt, one-mul, mul-assoc, mul-right-comm, eq-of-mul-eq-mul-right, mul-pos, mul-le-mul, mul-le-mul-right, mul-lt-mul-of-pos-right, le-div-iff-mul-le, div-lt-iff-lt-mul}
 use native.Mathlib.Omega.{arith}
 use lib.IntN.{ℤ}
-use lib.Dec.{T, leb, eqb, leb→le, le→leb, eqb→eq, not-T}
+use lib.Dec.{T, leb, ltb, eqb, leb→le, ltb→lt, eqb→eq, not-T}
 use lib.Pow.{pow-add, pow-pos, pow-mono}
 use lib.Count.{leadingZeros, leading-top}
-use lib.Ieee.{Float, nan, inf, fin, binary32, up, down, odd, ofFields, ofBits}
-use lib.Ieee.Bits.{is-true, is-false, cond-no}
+use lib.Ieee.{Float, nan, inf, fin, binary32, up, down, size, odd, fits, isNan, ofFields, ofBits, toBits}
+use lib.Ieee.Bits.{is-false, cond-no}
 use lib.Ieee.Exact.{HasValue, odd-sign}
-use lib.Ieee.Fits.{down-pos}
-use Rattle.relay_math.specs.Root.{radicand, ranged, rootOf, root}
-
--- no zero has a value above zero
-no-value : (a c : ℕ) (e : ℤ) → 0 * up e * c ≡ a * down e → 0 < a → ⊥
-no-value a c e h p = let k : 0 < a * down e = mul-pos p (down-pos e) in omega (arith, zero-mul (up e), zero-mul c, ap (λ (x : ℕ). x * c) (zero-mul (up e)))
+use lib.Ieee.Digits.{size-lt, size-le, size-reaches}
+use lib.Ieee.Fits.{and-l, and-r, up-pos, down-pos, kept-lt}
+use Rattle.relay_math.specs.Root.{specialOperands}
+use Rattle.relay_math.specs.declared.root.Operand.{Operand}
+use Rattle.relay_math.specs.declared.root.Operand.the-variants.{Special, AboveZero}
+use Rattle.relay_math.proofs.Scale.{four}
 
 -- ---- the fields of a pattern
 ofBits-is : (b : ℕ) → ofBits binary32 b ≡ ofFields binary32 (leb 2147483648 b) (b % 2147483648 / 8388608) (b % 8388608)
@@ -51,22 +50,30 @@ module _ (b : ℕ) where
       let e : b / 8388608 ≡ 0 = omega arith in
       plus b (omega arith) ∙ ap (λ (x : ℕ). ofFields binary32 false x (b % 8388608)) e ∙ ap (λ (t : ℕ). odd 24 false t 0 149) (mod-eq-of-lt h)
 
-radicand-of-value : (x : Float) (s : Bool) (a : ℕ) → HasValue x s a (2 ^ 149) → radicand binary32 x ≡ a * 2 ^ 149
-unfolding radicand
-radicand-of-value nan s a h = absurd h
-radicand-of-value (inf t) s a h = absurd h
-radicand-of-value (fin t m e) s a h = ap (λ (x : ℕ). x * 2 ^ 149) (ap (λ (x : ℕ). x / down e) (h .1) ∙ mul-div-cancel a (down-pos e))
+-- a value as a larger fraction, and as a smaller one
+value-scale : (x : Float) (s : Bool) (a c t : ℕ) → HasValue x s a c → HasValue x s (a * t) (c * t)
+value-scale nan s a c t h = absurd h
+value-scale (inf i) s a c t h = absurd h
+value-scale (fin i m e) s a c t h = (h .0, sym (mul-assoc (m * up e) c t) ∙ ap (λ (y : ℕ). y * t) (h .1) ∙ mul-right-comm a (down e) t)
 
-radicand-of-odd : (q k : ℕ) → radicand binary32 (odd 24 false q k 149) ≡ q * 2 ^ (k + 149)
-radicand-of-odd q k = radicand-of-value (odd 24 false q k 149) false (q * 2 ^ k) (odd-sign 24 false q k 149) ∙ mul-assoc q (2 ^ k) (2 ^ 149) ∙ ap (λ (x : ℕ). q * x) (sym (pow-add 2 k 149))
+pub value-shrink : (x : Float) (s : Bool) (a c t : ℕ) → 0 < t → HasValue x s (a * t) (c * t) → HasValue x s a c
+value-shrink nan s a c t p h = absurd h
+value-shrink (inf i) s a c t p h = absurd h
+value-shrink (fin i m e) s a c t p h = (h .0, eq-of-mul-eq-mul-right t p (m * up e * c) (a * down e) (mul-assoc (m * up e) c t ∙ h .1 ∙ mul-right-comm a t (down e)))
 
-pub radicand-normal : (b : ℕ) → 8388608 ≤ b → b < 2139095040 → (b % 8388608 + 8388608) * 2 ^ (b / 8388608 + 148) ≡ radicand binary32 (ofBits binary32 b)
-radicand-normal b h k =
-    let m : b % 8388608 + 8388608 ≡ 8388608 + b % 8388608 = omega arith in
-    let e : b / 8388608 + 148 ≡ b / 8388608 - 1 + 149 = omega arith in
-    ap (λ (x : ℕ). x * 2 ^ (b / 8388608 + 148)) m
-    ∙ ap (λ (x : ℕ). (8388608 + b % 8388608) * 2 ^ x) e
-    ∙ sym (ap (radicand binary32) (normal b h k) ∙ radicand-of-odd (8388608 + b % 8388608) (b / 8388608 - 1))
+-- q * 2 ^ k smallest values, over 4 ^ 173
+value-of-odd : (q k : ℕ) → HasValue (odd 24 false q k 149) false (q * 2 ^ (k + 197)) (4 ^ 173)
+value-of-odd q k =
+    subst (λ (a : ℕ). HasValue (odd 24 false q k 149) false a (4 ^ 173)) (mul-assoc q (2 ^ k) (2 ^ 197) ∙ ap (λ (y : ℕ). q * y) (sym (pow-add 2 k 197)))
+    (value-scale (odd 24 false q k 149) false (q * 2 ^ k) (2 ^ 149) (2 ^ 197) (odd-sign 24 false q k 149))
+
+pub value-normal : (b : ℕ) → 8388608 ≤ b → b < 2139095040 → HasValue (ofBits binary32 b) false ((b % 8388608 + 8388608) * 2 ^ (b / 8388608 + 196)) (4 ^ 173)
+value-normal b h k =
+    let m : 8388608 + b % 8388608 ≡ b % 8388608 + 8388608 = omega arith in
+    let e : b / 8388608 - 1 + 197 ≡ b / 8388608 + 196 = omega arith in
+    rw (normal b h k)
+    (subst (λ (a : ℕ). HasValue (odd 24 false (8388608 + b % 8388608) (b / 8388608 - 1) 149) false a (4 ^ 173)) (ap (λ (y : ℕ). y * 2 ^ (b / 8388608 - 1 + 197)) m ∙ ap (λ (y : ℕ). (b % 8388608 + 8388608) * 2 ^ y) e)
+    (value-of-odd (8388608 + b % 8388608) (b / 8388608 - 1)))
 
 -- what `leading_zeros` gives below 2 ^ 23: a shift that leaves 24 digits
 pub zeros : (b : ℕ) → 0 < b → b < 8388608
@@ -101,101 +108,77 @@ zeros b p h =
     top : (j k : ℕ) → j ≤ k → 2 ^ k ≡ 2 ^ j * 2 ^ (k - j)
     top j k g = ap (λ (x : ℕ). 2 ^ x) (sym (add-sub-of-le g)) ∙ pow-add 2 j (k - j)
 
-pub radicand-subnormal : (b k : ℕ) → b < 8388608 → k ≤ 149 → b * 2 ^ k * 2 ^ (149 - k) ≡ radicand binary32 (ofBits binary32 b)
-radicand-subnormal b k h g =
-    mul-assoc b (2 ^ k) (2 ^ (149 - k))
-    ∙ ap (λ (x : ℕ). b * x) (sym (pow-add 2 k (149 - k)) ∙ ap (λ (x : ℕ). 2 ^ x) (add-sub-of-le g))
-    ∙ sym (ap (radicand binary32) (subnormal b h) ∙ radicand-of-odd b 0)
+pub value-subnormal : (b k : ℕ) → b < 8388608 → k ≤ 197 → HasValue (ofBits binary32 b) false (b * 2 ^ k * 2 ^ (197 - k)) (4 ^ 173)
+value-subnormal b k h g =
+    rw (subnormal b h)
+    (subst (λ (a : ℕ). HasValue (odd 24 false b 0 149) false a (4 ^ 173)) (sym (mul-assoc b (2 ^ k) (2 ^ (197 - k)) ∙ ap (λ (x : ℕ). b * x) (sym (pow-add 2 k (197 - k)) ∙ ap (λ (x : ℕ). 2 ^ x) (add-sub-of-le g))))
+    (value-of-odd b 0))
 
--- ---- which rule
-root-positive : (x : Float) (a c : ℕ) → HasValue x false a c → 0 < a → rootOf binary32 x ≡ ranged binary32 (radicand binary32 x)
-unfolding rootOf
-root-positive nan a c h p = absurd h
-root-positive (inf s) a c h p = absurd h
-root-positive (fin s zero e) a c h p = absurd (no-value a c e (h .1) p)
-root-positive (fin true (suc m) e) a c h p = absurd (let z : _≡_ {A = ℕ} 0 1 = cc (h .0) in omega arith)
-root-positive (fin false (suc m) e) a c h p = refl
+-- ---- the pattern of an operand above zero
+abbrev special : Operand → ℕ
+special (Special r) = 1
+special AboveZero = 0
 
-root-negative : (x : Float) (a c : ℕ) → HasValue x true a c → 0 < a → rootOf binary32 x ≡ nan
-unfolding rootOf
-root-negative nan a c h p = absurd h
-root-negative (inf s) a c h p = absurd h
-root-negative (fin s zero e) a c h p = absurd (no-value a c e (h .1) p)
-root-negative (fin true (suc m) e) a c h p = refl
-root-negative (fin false (suc m) e) a c h p = absurd (let z : _≡_ {A = ℕ} 0 1 = cc (h .0) in omega arith)
+not-special : {y : Float} → Special y ≡ AboveZero → ⊥
+not-special e = let z : _≡_ {A = ℕ} 1 0 = ap special e in omega arith
 
-plus-zero : root (ofBits binary32 0) ≡ ofBits binary32 0
-unfolding rootOf ofBits
-plus-zero = refl
+-- a number of at least one and below 2 ^ 277 smallest values
+units-of : (m : ℕ) (e : ℤ) → T (fits binary32 (fin false (suc m) e)) → (0 < suc m * up e * 2 ^ 149 / down e) × (suc m * up e * 2 ^ 149 / down e < 2 ^ 277)
+unfolding fits
+units-of m e h =
+    let three = eqb (suc m % 2) 1 && ltb (suc m) (2 ^ 24) in
+    let d : down e ≤ 2 ^ 149 = leb→le (down e) (2 ^ 149) (and-r three (leb (down e) (2 ^ 149)) (and-l (three && leb (down e) (2 ^ 149)) (ltb (suc m * up e) (2 ^ 128 * down e)) h)) in
+    let t : suc m * up e < 2 ^ 128 * down e = ltb→lt (suc m * up e) (2 ^ 128 * down e) (and-r (three && leb (down e) (2 ^ 149)) (ltb (suc m * up e) (2 ^ 128 * down e)) h) in
+    let w : suc m * up e * 2 ^ 149 < 2 ^ 277 * down e = lt-of-lt-of-le (mul-lt-mul-of-pos-right t (pow-pos 149)) (le-of-eq (mul-right-comm (2 ^ 128) (down e) (2 ^ 149))) in
+    let one : 1 * down e ≤ suc m * up e * 2 ^ 149 = mul-le-mul (mul-pos (zero-lt-suc m) (up-pos e)) d in
+    (le-div-iff-mul-le (down-pos e) .1 one, div-lt-iff-lt-mul (down-pos e) .1 w)
 
-minus-zero : root (ofBits binary32 2147483648) ≡ ofBits binary32 2147483648
-unfolding rootOf ofBits
-minus-zero = refl
+pub above-number : (x : Float) → specialOperands x ≡ AboveZero → isNan x ≡ false
+unfolding specialOperands isNan
+above-number nan a = absurd (not-special a)
+above-number (inf s) a = refl
+above-number (fin s m e) a = refl
 
-ones : (t : ℕ) → root (ofFields binary32 false 255 t) ≡ ofFields binary32 false 255 t
-unfolding rootOf ofFields
-ones t = go (eqb t 0)
+-- the patterns between zero's and infinity's
+pub above-bits : (x : Float) → T (fits binary32 x) → specialOperands x ≡ AboveZero → (0 < toBits binary32 x) × (toBits binary32 x < 2139095040)
+unfolding specialOperands toBits
+above-bits nan h a = absurd (not-special a)
+above-bits (inf false) h a = absurd (not-special a)
+above-bits (inf true) h a = absurd (not-special a)
+above-bits (fin s zero e) h a = absurd (not-special a)
+above-bits (fin true (suc m) e) h a = absurd (not-special a)
+above-bits (fin false (suc m) e) h a =
+    let u = units-of m e h in
+    let n = suc m * up e * 2 ^ 149 / down e in
+    let k = size n - 24 in
+    let kept : 0 < n / 2 ^ k = le-div-iff-mul-le (pow-pos k) .1 (le-trans (le-of-eq (one-mul (2 ^ k))) (size-reaches n k (fewer (size n) (size-lt n)))) in
+    let top : k ≤ 253 = few (size n) (size-le n 277 (u .1)) in
+    bounds k (n / 2 ^ k) top kept (kept-lt 24 n)
   where
-    go : (z : Bool) → root (cond z (inf false) nan) ≡ cond z (inf false) nan
-    go true = refl
-    go false = refl
+    fewer : (s : ℕ) → suc m * up e * 2 ^ 149 / down e < 2 ^ s → s - 24 < s
+    fewer zero g = absurd (let p = units-of m e h .0 in omega arith)
+    fewer (suc s) g = omega arith
 
-minus-odd : (q k : ℕ) → 0 < q → root (odd 24 true q k 149) ≡ nan
-minus-odd q k p = root-negative (odd 24 true q k 149) (q * 2 ^ k) (2 ^ 149) (odd-sign 24 true q k 149) (mul-pos p (pow-pos k))
+    few : (s : ℕ) → s ≤ 277 → s - 24 ≤ 253
+    few s g = omega arith
 
-minus-fields : (x t : ℕ) → x ≤ 255 → 0 < x + t → root (ofFields binary32 true x t) ≡ nan
-unfolding rootOf ofFields
-minus-fields zero t l p = minus-odd t 0 (omega arith)
-minus-fields (suc x) t l p = go (eqb (suc x) 255) (eqb t 0)
-  where
-    go : (a z : Bool) → root (cond a (cond z (inf true) nan) (odd 24 true (8388608 + t) x 149)) ≡ nan
-    go true true = refl
-    go true false = refl
-    go false z = minus-odd (8388608 + t) x (omega arith)
-
--- a pattern above zero and below infinity's has a root by its radicand
-pub root-of-bits : (b : ℕ) → 0 < b → b < 2139095040 → root (ofBits binary32 b) ≡ ranged binary32 (radicand binary32 (ofBits binary32 b))
-root-of-bits b p h = go (decLe 8388608 b)
-  where
-    odd-case : (q k : ℕ) → 0 < q → ofBits binary32 b ≡ odd 24 false q k 149 → root (ofBits binary32 b) ≡ ranged binary32 (radicand binary32 (ofBits binary32 b))
-    odd-case q k g e = rw e (root-positive (odd 24 false q k 149) (q * 2 ^ k) (2 ^ 149) (odd-sign 24 false q k 149) (mul-pos g (pow-pos k)))
-
-    go : Dec (8388608 ≤ b) → root (ofBits binary32 b) ≡ ranged binary32 (radicand binary32 (ofBits binary32 b))
-    go (yes l) = odd-case (8388608 + b % 8388608) (b / 8388608 - 1) (omega arith) (normal b l h)
-    go (no f) = odd-case b 0 p (subnormal b (lt-of-not-le f))
-
--- the zeros
-pub root-of-zero : (b : ℕ) → b < 2 ^ 32 → b % 2147483648 ≡ 0 → root (ofBits binary32 b) ≡ ofBits binary32 b
-root-of-zero b h e = go (decLe 2147483648 b)
-  where
-    go : Dec (2147483648 ≤ b) → root (ofBits binary32 b) ≡ ofBits binary32 b
-    go (yes l) = let z : b ≡ 2147483648 = omega arith in rw z minus-zero
-    go (no f) = let k : b < 2147483648 = lt-of-not-le f in let z : b ≡ 0 = omega arith in rw z plus-zero
-
--- infinity, and the patterns of NaN above it
-pub root-of-large : (b : ℕ) → 2139095040 ≤ b → b < 2147483648 → root (ofBits binary32 b) ≡ ofBits binary32 b
-root-of-large b l u = let e : b / 8388608 ≡ 255 = omega arith in rw (plus b u ∙ ap (λ (x : ℕ). ofFields binary32 false x (b % 8388608)) e) (ones (b % 8388608))
-
--- below zero
-pub root-of-minus : (b : ℕ) → 2147483648 < b → b < 2 ^ 32 → root (ofBits binary32 b) ≡ nan
-root-of-minus b l u =
-    rw (ofBits-is b ∙ ap (λ (s : Bool). ofFields binary32 s (b % 2147483648 / 8388608) (b % 8388608)) (is-true (leb 2147483648 b) (le→leb 2147483648 b (le-of-lt l))))
-    (minus-fields (b % 2147483648 / 8388608) (b % 8388608) (omega arith) (omega arith))
+    bounds : (k q : ℕ) → k ≤ 253 → 0 < q → q < 16777216 → (0 < 0 + k * 8388608 + q) × (0 + k * 8388608 + q < 2139095040)
+    bounds k q g p l = (omega arith, omega arith)
 
 -- ---- the radicand's exponent made even
-split : (m h j c : ℕ) → h + (j + j) ≡ c → m * 2 ^ h * (2 ^ j * 2 ^ j) ≡ m * 2 ^ c
-split m h j c e = mul-assoc m (2 ^ h) (2 ^ j * 2 ^ j) ∙ ap (λ (x : ℕ). m * x) (ap (λ (x : ℕ). 2 ^ h * x) (sym (pow-add 2 j j)) ∙ sym (pow-add 2 h (j + j)) ∙ ap (λ (x : ℕ). 2 ^ x) e)
+split : (m h j c : ℕ) → h + (j + j) ≡ c → m * 2 ^ h * 4 ^ j ≡ m * 2 ^ c
+split m h j c e = mul-assoc m (2 ^ h) (4 ^ j) ∙ ap (λ (x : ℕ). m * x) (ap (λ (x : ℕ). 2 ^ h * x) (four j ∙ sym (pow-add 2 j j)) ∙ sym (pow-add 2 h (j + j)) ∙ ap (λ (x : ℕ). 2 ^ x) e)
 
 abbrev pub Even : ℕ → ℕ → ℕ → Type 0
 Even m c o =
     let n = m * (16777216 - o * 8388608) in
     let j = (c - 24 + o) / 2 in
-    (2 ^ 46 ≤ n) × (n ≤ 2 ^ 48 - 2 ^ 24) × (j ≤ 190) × (n * (2 ^ j * 2 ^ j) ≡ m * 2 ^ c)
+    (2 ^ 46 ≤ n) × (n ≤ 2 ^ 48 - 2 ^ 24) × (75 ≤ j) × (j ≤ 214) × (n * 4 ^ j ≡ m * 2 ^ c)
 
-pub evened : (m c : ℕ) → 8388608 ≤ m → m < 16777216 → 126 ≤ c → c ≤ 402 → Even m c (c % 2)
+pub evened : (m c : ℕ) → 8388608 ≤ m → m < 16777216 → 174 ≤ c → c ≤ 450 → Even m c (c % 2)
 evened m c l u a b = go (c % 2) refl
   where
     go : (o : ℕ) → c % 2 ≡ o → Even m c o
-    go zero e = (omega arith, omega arith, omega arith, split m 24 ((c - 24 + 0) / 2) c (omega arith))
-    go (suc zero) e = (omega arith, omega arith, omega arith, split m 23 ((c - 24 + 1) / 2) c (omega arith))
+    go zero e = (omega arith, omega arith, omega arith, omega arith, split m 24 ((c - 24 + 0) / 2) c (omega arith))
+    go (suc zero) e = (omega arith, omega arith, omega arith, omega arith, split m 23 ((c - 24 + 1) / 2) c (omega arith))
     go (suc (suc o)) e = absurd (omega arith)

@@ -11,6 +11,12 @@ sq-suc a = omega (arith, add-mul a 1 (a + 1), mul-add a a 1)
 pub odd-sq : (r : ℕ) → (2 * r + 1) * (2 * r + 1) ≡ 4 * (r * r) + 4 * r + 1
 odd-sq r = omega (arith, sq-suc (2 * r), mul-mul-mul-comm 2 r 2 r)
 
+pub sq-lt : (a b : ℕ) → a < b → a * a < b * b
+sq-lt a b h = let k : (a + 1) * (a + 1) ≤ b * b = mul-le-mul (next a b h) (next a b h) in omega (arith, sq-suc a)
+  where
+    next : (a b : ℕ) → a < b → a + 1 ≤ b
+    next a b h = omega arith
+
 pub sq-lt-back : (a b : ℕ) → a * a < b * b → a < b
 sq-lt-back a b h = lt-of-not-le (λ (g : b ≤ a). not-le-of-lt h (mul-le-mul g g))
 

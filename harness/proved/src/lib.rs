@@ -26,6 +26,9 @@ mod linked {
         pub fn bartsemmo_battery_new(numbers: *mut u32, length: usize) -> u32;
         pub fn bartsemmo_battery_opened(numbers: *mut u32, length: usize, cells: u32, volts: u32) -> u32;
         pub fn bartsemmo_battery_update(numbers: *mut u32, length: usize, dt: u32, kind: u32, volts: u32, amps: u32) -> u32;
+        /// `bartsemmo_sqrtf` of another tree.
+        #[cfg(feature = "before")]
+        pub fn before_sqrtf(b: u32) -> u32;
     }
 }
 
@@ -56,6 +59,11 @@ safe! {
     set = bartsemmo_set(required: u32, passed: u32, id: u32, pass: u32) -> u64;
     outstanding = bartsemmo_outstanding(required: u32, passed: u32) -> u32;
     blocker = bartsemmo_blocker(required: u32, passed: u32) -> u32;
+}
+
+#[cfg(feature = "before")]
+safe! {
+    before = before_sqrtf(b: u32) -> u32;
 }
 
 /// `Battery::new` for the pack of the first eight numbers; 0, or 1 where the slice has under 29 numbers, which are then as they were.

@@ -1,7 +1,10 @@
 //! The proved root beside Rust's `f32::sqrt`, by bits.
 //!
 //! `root all` compares every pattern, `root quick` about two million, `root bench` times both. `all` and `quick` exit 1 on a difference.
+//! With the feature `before` `bench` also times the proved root of another tree; `harness/bench root` builds and runs it so.
 
+#[cfg(feature = "before")]
+use proved::before;
 use proved::sqrtf as proved;
 use std::hint::black_box;
 use std::time::Instant;
@@ -178,6 +181,33 @@ fn least(times: Vec<f64>) -> f64 {
 
 const ROUNDS: usize = 41;
 
+/// What is timed in every round.
+const TIMED: &[fn(&[u32]) -> f64] = &[
+    |list| apart(list, proved),
+    |list| chained(list, proved),
+    |list| apart(list, called),
+    |list| chained(list, called),
+    |list| apart(list, inlined),
+    #[cfg(feature = "before")]
+    |list| apart(list, before),
+    #[cfg(feature = "before")]
+    |list| chained(list, before),
+];
+
+/// The least times over a list, as in `TIMED`. Each round begins one place further and every other goes backwards, so that none gains by its place.
+fn times(list: &[u32]) -> Vec<f64> {
+    let n = TIMED.len();
+    let mut t = vec![Vec::new(); n];
+    for round in 0..ROUNDS {
+        for i in 0..n {
+            let place = if round % 2 == 0 { i } else { n - i };
+            let k = (round + place) % n;
+            t[k].push(TIMED[k](list));
+        }
+    }
+    t.into_iter().map(least).collect()
+}
+
 fn bench() {
     println!("nanoseconds a call, least of {ROUNDS} rounds in turn over 2^18 inputs; ratio: the proved root over f32::sqrt as a call");
     println!("{:<18} {:^35} {:^26}", "", "apart", "chained");
@@ -185,25 +215,44 @@ fn bench() {
         "{:<18} {:>8} {:>8} {:>8} {:>8} {:>8} {:>8} {:>8}",
         "inputs", "proved", "called", "inlined", "ratio", "proved", "called", "ratio"
     );
-    let (mut ratios, mut chains) = (Vec::new(), Vec::new());
+    let (mut ratios, mut chains, mut beside) = (Vec::new(), Vec::new(), Vec::new());
     for (name, list) in inputs(1 << 18) {
-        let mut t: [Vec<f64>; 5] = Default::default();
-        for _ in 0..ROUNDS {
-            t[0].push(apart(&list, proved));
-            t[1].push(apart(&list, called));
-            t[2].push(apart(&list, inlined));
-            t[3].push(chained(&list, proved));
-            t[4].push(chained(&list, called));
-        }
-        let [p, c, i, pc, cc] = t.map(least);
+        let t = times(&list);
+        let (p, pc, c, cc, i) = (t[0], t[1], t[2], t[3], t[4]);
         ratios.push(p / c);
         chains.push(pc / cc);
         println!("{name:<18} {p:>8.2} {c:>8.2} {i:>8.2} {:>8.2} {pc:>8.2} {cc:>8.2} {:>8.2}", p / c, pc / cc);
+        if let [b, bc] = t[5..] {
+            beside.push((name, p, b, pc, bc));
+        }
     }
     for (what, list) in [("apart", ratios), ("chained", chains)] {
-        let mean = list.iter().sum::<f64>() / list.len() as f64;
-        let worst = list.iter().cloned().fold(0.0, f64::max);
+        let (mean, worst) = mean_and_worst(&list);
         println!("{what}: mean ratio {mean:.2}, worst {worst:.2}");
+    }
+    if !beside.is_empty() {
+        print_beside(&beside);
+    }
+}
+
+fn mean_and_worst(list: &[f64]) -> (f64, f64) {
+    (list.iter().sum::<f64>() / list.len() as f64, list.iter().cloned().fold(0.0, f64::max))
+}
+
+/// The proved root beside that of the other tree, of the same rounds: a name, the times apart and the times chained, of each the other tree's second.
+fn print_beside(rows: &[(&str, f64, f64, f64, f64)]) {
+    println!("\nthe same rounds; before: the proved root of the other tree; ratio: the proved root over it");
+    println!("{:<18} {:^26} {:^26}", "", "apart", "chained");
+    println!("{:<18} {1:>8} {2:>8} {3:>8} {1:>8} {2:>8} {3:>8}", "inputs", "proved", "before", "ratio");
+    let (mut ratios, mut chains) = (Vec::new(), Vec::new());
+    for &(name, p, b, pc, bc) in rows {
+        ratios.push(p / b);
+        chains.push(pc / bc);
+        println!("{name:<18} {p:>8.2} {b:>8.2} {:>8.3} {pc:>8.2} {bc:>8.2} {:>8.3}", p / b, pc / bc);
+    }
+    for (what, list) in [("apart", ratios), ("chained", chains)] {
+        let (mean, worst) = mean_and_worst(&list);
+        println!("{what}: mean ratio {mean:.3}, worst {worst:.3}");
     }
 }
 

@@ -6,7 +6,7 @@ use native.Mathlib.Omega.{arith}
 use borrow.Author.Needs.{needs}
 use lib.Dec.{lit≤}
 use lib.Count.{leadingZeros}
-use Rattle.relay_math.proofs.Patterns.{zeros, radicand-normal, radicand-subnormal}
+use Rattle.relay_math.proofs.Patterns.{zeros, value-normal, value-subnormal}
 use Rattle.relay_math.proofs.root.radicand_of.Statement.{statement}
 use Rattle.relay_math.proofs.root.radicand_of.Tie as tie
 
@@ -23,7 +23,7 @@ add-t9 : tie.Need-add-t9
 add-t9 c = search needs
 
 returns : tie.Need-returns
-returns c = (omega arith, omega arith, omega arith, omega arith, radicand-normal (c .before .args .b) (c .if1 .taken) (c .before .pre .1))
+returns c = (omega arith, omega arith, omega arith, omega arith, value-normal (c .before .args .b) (c .if1 .taken) (c .before .pre .1))
 
 -- a subnormal pattern and its leading zeros
 at : (c : tie.Else1) → (9 ≤ leadingZeros 32 (c .before .args .b)) × (leadingZeros 32 (c .before .args .b) ≤ 31)
@@ -54,7 +54,7 @@ returns-2 c =
     let z = leadingZeros 32 b in
     let a = at c in
     let e : (b * 2 ^ (z - 8)) % 2 ^ 32 ≡ b * 2 ^ (z - 8) = shifted (b * 2 ^ (z - 8)) (a .3) in
-    rw e (a .2, a .3, omega (arith, a .1), omega (arith, a .0), radicand-subnormal b (z - 8) (c .if1 .left) (omega (arith, a .1)))
+    rw e (a .2, a .3, omega (arith, a .1), omega (arith, a .0), value-subnormal b (z - 8) (c .if1 .left) (omega (arith, a .1)))
 
 pub radicand-of-spec : {M : Type 1} → statement M
 radicand-of-spec = tie.close (tie.spec add-t5 cast-t6 cast-t8 add-t9 returns sub-k shl-t10 cast-t11 cast-t12 sub-t13 returns-2)
