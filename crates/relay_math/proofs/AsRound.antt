@@ -1,12 +1,12 @@
--- The root's rounding and exponent range, applied to an exact number a / 2 ^ l, are `round`, with which every operation of the float library ends: so overflow and underflow are its own. Assumes nothing.
+-- The root's rounding and exponent range, applied to an exact number a / 2 ^ l, are `round`, with which every operation of the float library that can be inexact ends: so overflow and underflow are its own. Assumes nothing.
 use mathlib.Core.Path.{_≡_, refl, sym, ap, _∙_, subst}
 use mathlib.Core.Bool.{Bool, true, false, not, cond}
 use Prim.Native.Nat.{ℕ, zero, suc, _+_, _-_, _*_, _/_, _%_, _^_, _≤_, _<_, compare, Ordering, Ordering·lt, Ordering·eq, Ordering·gt}
-use native.Mathlib.Nat.{le-refl, le-trans, le-of-eq, lt-of-le-of-lt, lt-of-lt-of-le, lt-of-not-le, not-le-of-lt, zero-mul, mul-one, one-mul, mul-comm, mul-assoc, mul-mul-mul-comm, add-mul, mul-le-mul-right, mul-lt-mul-of-pos-right, mul-pos, sub-le, sub-eq-zero-of-le, add-sub-cancel, div-add-mod', le-div-iff-mul-le, div-lt-iff-lt-mul}
+use native.Mathlib.Nat.{le-refl, le-trans, le-of-eq, lt-of-le-of-lt, lt-of-lt-of-le, zero-mul, mul-one, one-mul, mul-comm, mul-assoc, mul-mul-mul-comm, add-mul, mul-le-mul-right, mul-lt-mul-of-pos-right, mul-pos, sub-le, sub-eq-zero-of-le, add-sub-cancel, div-add-mod', le-div-iff-mul-le, div-lt-iff-lt-mul}
 use native.Mathlib.Omega.{arith}
 use lib.IntN.{pos, negsuc}
 use lib.Dec.{T, ltb, ltb→lt, nltb→le, lt→ltb, lit<}
-use lib.Pow.{pow-add, pow-pos, pow-mono, pow-lt, shr-lt}
+use lib.Pow.{pow-add, pow-pos, pow-lt, shr-lt}
 use lib.Ieee.{Float, inf, fin, Format, binary32, binary64, prec, emax, low, up, size, nearest, odd, units, round, mul, lt}
 use lib.Ieee.Digits.{size-lt, size-le, size-reaches}
 use lib.Ieee.Exact.{odd-sign}
@@ -17,7 +17,7 @@ use lib.Ieee.Scale.{normal-of-fraction}
 use Rattle.relay_math.specs.Root.{Exact, rootBy, wholeRoot, nearestRoot, rounding, exponentRange}
 use Rattle.relay_math.proofs.Nearest.{Cmp, cmp}
 use Rattle.relay_math.proofs.Rounding.{below-power}
-use Rattle.relay_math.proofs.Scale.{compare-is, four, size-between, odd-same}
+use Rattle.relay_math.proofs.Scale.{compare-is, four, size-gt, size-between, odd-same, ltb-same}
 use Rattle.relay_math.proofs.Squares.{sq-suc, sq-lt, sq-lt-back}
 use Rattle.relay_math.proofs.WholeRoot.{root-unique}
 
@@ -58,10 +58,6 @@ nearest-of-square a k =
 square-shift : (a i : ℕ) → a * a * 4 ^ i ≡ a * 2 ^ i * (a * 2 ^ i)
 square-shift a i = ap (λ (x : ℕ). a * a * x) (four i) ∙ mul-mul-mul-comm a a (2 ^ i) (2 ^ i)
 
--- a number from 2 ^ j on has more than j digits
-size-gt : (n j : ℕ) → 2 ^ j ≤ n → j < size n
-size-gt n j h = lt-of-not-le (λ (g : size n ≤ j). not-le-of-lt (lt-of-lt-of-le (size-lt n) (pow-mono g)) h)
-
 -- 2 ^ i times a has i digits more
 size-shift : (a i : ℕ) → 0 < a → size (a * 2 ^ i) ≡ size a + i
 size-shift a i h = size-between (a * 2 ^ i) a i h (le-refl (a * 2 ^ i)) (mul-lt-mul-of-pos-right (next a) (pow-pos i))
@@ -80,17 +76,6 @@ size-cut n l h =
   where
     back : (z l : ℕ) → l < z → z ≡ z - l + l
     back z l h = omega arith
-
--- ---- tests
--- two tests that follow from each other
-ltb-same : (a b c d : ℕ) → (a < b → c < d) → (c < d → a < b) → ltb a b ≡ ltb c d
-ltb-same a b c d f g = go (ltb a b) (ltb c d) (ltb→lt a b) (lt→ltb a b) (ltb→lt c d) (lt→ltb c d)
-  where
-    go : (x y : Bool) → (T x → a < b) → (a < b → T x) → (T y → c < d) → (c < d → T y) → x ≡ y
-    go true true p q r s = refl
-    go true false p q r s = absurd (s (f (p tt)))
-    go false true p q r s = absurd (q (g (r tt)))
-    go false false p q r s = refl
 
 -- ---- the rounding of an exact number
 -- size a of the digits of a * 2 ^ prec are dropped

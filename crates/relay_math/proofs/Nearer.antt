@@ -2,23 +2,22 @@
 use mathlib.Core.Path.{_≡_, sym, ap, _∙_, subst}
 use mathlib.Core.Bool.{true, false, _&&_, true≢false}
 use Prim.Native.Nat.{ℕ, zero, suc, _+_, _-_, _*_, _/_, _%_, _^_, _≤_, _<_}
-use native.Mathlib.Nat.{le-trans, le-of-eq, le-of-lt, lt-of-le-of-lt, lt-of-lt-of-le, lt-of-not-le, not-le-of-lt, le-of-suc-le-suc, lt-irrefl, le-add-right, sub-add-cancel, zero-mul, mul-one, add-mul, mul-assoc, mul-right-comm, mul-mul-mul-comm, mul-pos, mul-le-mul, mul-le-mul-left, mul-le-mul-right, mul-lt-mul-of-pos-right, lt-of-mul-lt-mul-right, eq-of-mul-eq-mul-right, mul-div-cancel}
+use native.Mathlib.Nat.{le-trans, le-of-eq, le-of-lt, lt-of-le-of-lt, lt-of-lt-of-le, lt-of-not-le, not-le-of-lt, le-of-suc-le-suc, lt-irrefl, le-add-right, sub-add-cancel, zero-mul, mul-one, add-mul, mul-assoc, mul-mul-mul-comm, mul-pos, mul-le-mul, mul-le-mul-left, mul-le-mul-right, mul-lt-mul-of-pos-right, lt-of-mul-lt-mul-right, eq-of-mul-eq-mul-right, mul-div-cancel}
 use native.Mathlib.Decide.{decLe}
 use native.Mathlib.Omega.{arith}
 use lib.IntN.{ℤ, pos, negsuc}
 use lib.Dec.{T, leb, ltb, eqb, leb→le, ltb→lt}
 use lib.Pow.{pow-add, pow-pos, pow-mono, pow-lt, shl-lt}
-use lib.Ieee.{Float, nan, inf, fin, binary32, up, down, size, fits, ofBits, toBits}
+use lib.Ieee.{Float, nan, inf, fin, binary32, up, down, fits, ofBits}
 use lib.Ieee.Bits.{ofBits-toBits}
 use lib.Ieee.Exact.{HasValue}
 use lib.Ieee.Fits.{and-l, and-r, down-pos}
-use lib.Ieee.Nearest.{div-same}
 use Rattle.relay_math.specs.Root.{wholeRoot, nearestRoot}
-use Rattle.relay_math.proofs.Rounding.{root-24, nearest-down, nearest-up}
+use Rattle.relay_math.proofs.Rounding.{root-24, nearest-down, nearest-up, bits-of}
 use Rattle.relay_math.proofs.Squares.{sq-lt, odd-sq}
 use Rattle.relay_math.proofs.WholeRoot.{IsRoot, wholeRoot-is}
 
--- b is nearer to √n than a is: the point midway lies on a's side of √n, and not on √n
+-- b is a, or nearer to √n than a is: the point midway lies on a's side of √n, and not on √n
 abbrev pub Nearer : ℕ → ℕ → ℕ → Type 0
 Nearer n b a = (a < b → (a + b) * (a + b) < 4 * n) × (b < a → 4 * n < (a + b) * (a + b))
 
@@ -30,7 +29,7 @@ not-both n a b h x y =
     let v : 4 * n < (a + b) * (a + b) = rw c (y .1 h) in
     omega arith
 
--- which of two numbers is nearer is determined
+-- two numbers, each the other or nearer than it, are one
 pub nearer-one : (n a b : ℕ) → Nearer n b a → Nearer n a b → a ≡ b
 nearer-one n a b x y = go (decLe a b) (decLe b a)
   where
@@ -168,26 +167,6 @@ nearer-than n j a z c d t v = go (decLe n (q * q + q))
         subst (λ (r : ℕ). Nearer (n * (2 ^ j * 2 ^ j)) (r * 2 ^ j) a) (sym (nearest-up n q d (wholeRoot-is n) h .0)) (nearer-up n (2 ^ j) a (pow-pos j) g q l (wholeRoot-is n) h)
 
 -- ---- one value, one f32
--- two fractions that are both a / c
-cross : (x y d e a c : ℕ) → 0 < c → x * c ≡ a * d → y * c ≡ a * e → x * e ≡ y * d
-cross x y d e a c p v w =
-    eq-of-mul-eq-mul-right c p (x * e) (y * d)
-    (mul-right-comm x e c ∙ ap (λ (k : ℕ). k * e) v ∙ mul-right-comm a d e ∙ ap (λ (k : ℕ). k * d) (sym w) ∙ mul-right-comm y c d)
-
-same-units : (x y d e l : ℕ) → 0 < d → 0 < e → x * e ≡ y * d → x * l / d ≡ y * l / e
-same-units x y d e l p q h = div-same (x * l) d (y * l) e p q (mul-right-comm x l e ∙ ap (λ (k : ℕ). k * l) h ∙ mul-right-comm y d l)
-
-same-bits : (x y : Float) (a c : ℕ) → 0 < c → HasValue x false a c → HasValue y false a c → toBits binary32 x ≡ toBits binary32 y
-unfolding toBits
-same-bits nan y a c p v w = absurd v
-same-bits (inf s) y a c p v w = absurd v
-same-bits (fin s m e) nan a c p v w = absurd w
-same-bits (fin s m e) (inf t) a c p v w = absurd w
-same-bits (fin true m e) (fin t k d) a c p v w = absurd (true≢false (v .0))
-same-bits (fin false m e) (fin true k d) a c p v w = absurd (true≢false (w .0))
-same-bits (fin false m e) (fin false k d) a c p v w =
-    ap (λ (x : ℕ). 0 + (size x - 24) * 8388608 + x / 2 ^ (size x - 24)) (same-units (m * up e) (k * up d) (down e) (down d) (2 ^ 149) (down-pos e) (down-pos d) (cross (m * up e) (k * up d) (down e) (down d) a c p (v .1) (w .1)))
-
 -- two finite f32 from zero up of one value are one
-pub same-value : (x y : Float) (a c : ℕ) → T (fits binary32 x) → T (fits binary32 y) → 0 < c → HasValue x false a c → HasValue y false a c → x ≡ y
-same-value x y a c s t p v w = sym (ofBits-toBits binary32 x s) ∙ ap (ofBits binary32) (same-bits x y a c p v w) ∙ ofBits-toBits binary32 y t
+pub same-value : (x y : Float) (a : ℕ) → T (fits binary32 x) → T (fits binary32 y) → HasValue x false a (2 ^ 149) → HasValue y false a (2 ^ 149) → x ≡ y
+same-value x y a s t v w = sym (ofBits-toBits binary32 x s) ∙ ap (ofBits binary32) (bits-of x a v ∙ sym (bits-of y a w)) ∙ ofBits-toBits binary32 y t

@@ -173,7 +173,7 @@ abbrev pub Even : ℕ → ℕ → ℕ → Type 0
 Even m c o =
     let n = m * (16777216 - o * 8388608) in
     let j = (c - 24 + o) / 2 in
-    (2 ^ 46 ≤ n) × (n ≤ 2 ^ 48 - 2 ^ 24) × (75 ≤ j) × (j ≤ 214) × (n * 4 ^ j ≡ m * 2 ^ c)
+    (2 ^ 46 ≤ n) × (n ≤ 2 ^ 48 - 2 ^ 24) × (75 ≤ j) × (j ≤ 213) × (n * 4 ^ j ≡ m * 2 ^ c)
 
 pub evened : (m c : ℕ) → 8388608 ≤ m → m < 16777216 → 174 ≤ c → c ≤ 450 → Even m c (c % 2)
 evened m c l u a b = go (c % 2) refl

@@ -63,13 +63,13 @@ above (fin false zero e) p = absurd p
 above (fin false (suc m) e) p = refl
 
 -- ---- x as n * 4 ^ e / 4 ^ 173, where the root of n has 24 digits
-pub record Form (x : Float) : Type 0 where
+record Form (x : Float) : Type 0 where
   pub n : ℕ
   pub e : ℕ
   pub low : 2 ^ 46 ≤ n
   pub high : n ≤ 2 ^ 48 - 2 ^ 24
   pub least : 75 ≤ e
-  pub most : e ≤ 214
+  pub most : e ≤ 213
   pub value : HasValue x false (n * 4 ^ e) (4 ^ 173)
 
 form-of : (x : Float) (m c : ℕ) → HasValue x false (m * 2 ^ c) (4 ^ 173) → Even m c (c % 2) → Form x
@@ -112,12 +112,12 @@ module _ (x : Float) (h : T (fits binary32 x)) (p : T (positive x)) where
   digits = nearest-24 (own .n) (own .low) (own .high)
 
   abbrev exact : Exact
-  exact = exactAt (own .n) (own .e) 173
+  exact = exactAt (own .n) (own .e)
 
   rounded : rounding binary32 (unlimitedPrecision x) ≡ odd 25 false r (own .e) 173
   rounded =
       same-rounding binary32 (unlimitedPrecision x) exact (exact-same x false (own .n * 4 ^ own .e) 173 (own .value)) (mul-pos (lt-of-lt-of-le (lit< tt) (own .low)) (four-pos (own .e)))
-      ∙ rounding-at (own .n) (own .e) 173 (own .low) (own .high)
+      ∙ rounding-at (own .n) (own .e) (own .low) (own .high)
 
   -- ---- the exponent's range
   -- it changes nothing
@@ -179,7 +179,7 @@ module _ (x : Float) (h : T (fits binary32 x)) (p : T (positive x)) where
   units-are : (n : ℕ) → HasValue x false n (4 ^ 149) → n ≡ own .n * 4 ^ j
   units-are n v = one-value x n (own .n * 4 ^ j) (4 ^ 149) v square-units
 
-  -- the definition of the root before it went in the standard's order: √n smallest values, with all but 24 digits dropped
+  -- in other words: √n smallest values with all but 24 digits dropped, and no range but that of `units`
   pub root-in-units : (n : ℕ) → HasValue x false n (4 ^ 149) → root x ≡ units binary32 false (nearestRoot n (size (wholeRoot n) - 24)) (size (wholeRoot n) - 24)
   unfolding units
   root-in-units n v =
@@ -193,7 +193,7 @@ module _ (x : Float) (h : T (fits binary32 x)) (p : T (positive x)) where
       less k = omega arith
 
   -- ---- the nearest f32
-  -- No f32 from zero up is nearer to the exact root, √n smallest values, than the root, b of them, and none but the root is as near. What is below zero is further off than zero.
+  -- No finite f32 from zero up is nearer to the exact root, √n smallest values, than the root, b of them, and none but the root is as near. What is below zero is further off than zero.
   pub root-nearest-f32 : (n b : ℕ) → HasValue x false n (4 ^ 149) → HasValue (root x) false b (2 ^ 149) → (z : Float) (a : ℕ) → T (fits binary32 z) → HasValue z false a (2 ^ 149) → Nearer n b a
   root-nearest-f32 n b v w z a t u =
       subst (λ (y : ℕ). Nearer n y a) (one-value (root x) (r * 2 ^ j) b (2 ^ 149) in-units w)
@@ -205,7 +205,7 @@ module _ (x : Float) (h : T (fits binary32 x)) (p : T (positive x)) where
   root-determined y n b t v w all =
       let a = r * 2 ^ j in
       let one : b ≡ a = nearer-one n b a (root-nearest-f32 n a v in-units y b t w) (all (root x) a root-fits in-units) in
-      same-value y (root x) b (2 ^ 149) t root-fits (pow-pos 149) w (subst (λ (c : ℕ). HasValue (root x) false c (2 ^ 149)) (sym one) in-units)
+      same-value y (root x) b t root-fits w (subst (λ (c : ℕ). HasValue (root x) false c (2 ^ 149)) (sym one) in-units)
 
 -- ---- a finite number from zero up has a finite root from zero up
 value-finite : (x : Float) (a c : ℕ) → HasValue x false a c → T (finite x)
@@ -217,9 +217,9 @@ value-from-zero : (x : Float) (a : ℕ) → HasValue x false a (2 ^ 149) → T (
 unfolding ofBits
 value-from-zero x a h = le-of-values Zero x 0 1 a (2 ^ 149) (lit< tt) (pow-pos 149) (refl, refl) h zero-le
 
-no-less : (m : ℕ) (e : ℤ) → T (le Zero (fin true (suc m) e)) → ⊥
+not-below : (m : ℕ) (e : ℤ) → T (le Zero (fin true (suc m) e)) → ⊥
 unfolding le lt eq ofBits
-no-less m e h =
+not-below m e h =
     let z : 0 * 1 * down e ≡ suc m * up e * 1 = eqb→eq (0 * 1 * down e) (suc m * up e * 1) (and-l (eqb (0 * 1 * down e) (suc m * up e * 1)) (eqb (0 * 1 * down e) 0) h) in
     let k : 0 < suc m * up e = mul-pos (zero-lt-suc m) (up-pos e) in
     omega (arith, zero-mul (down e))
@@ -234,7 +234,7 @@ unfolding rootOf specialOperands ofBits
 root-finite nan h f l = absurd f
 root-finite (inf s) h f l = absurd f
 root-finite (fin s zero e) h f l = (tt, zeros-level _ _)
-root-finite (fin true (suc m) e) h f l = absurd (no-less m e l)
+root-finite (fin true (suc m) e) h f l = absurd (not-below m e l)
 root-finite (fin false (suc m) e) h f l =
     let x = fin false (suc m) e in
     let v = root-digits x h (lt→ltb 0 (suc m) (zero-lt-suc m)) in

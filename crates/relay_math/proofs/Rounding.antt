@@ -14,7 +14,7 @@ use lib.Ieee.Digits.{size-le}
 use lib.Ieee.Exact.{HasValue, odd-sign}
 use lib.Ieee.Fits.{down-pos, nearest-le, odd-fits}
 use lib.Ieee.Bits.{is-true, is-false, ofBits-toBits}
-use Rattle.relay_math.specs.Root.{Exact, overflow, wholeRoot, nearestRoot, rounding, exponentRange}
+use Rattle.relay_math.specs.Root.{Exact, overflowExponent, wholeRoot, nearestRoot, rounding, exponentRange}
 use Rattle.relay_math.proofs.Nearest.{Cmp}
 use Rattle.relay_math.proofs.Scale.{compare-is, four-pos, nearest-scale, size-exact, size-between, size-root, odd-same, below-multiples}
 use Rattle.relay_math.proofs.Squares.{odd-sq, sq-lt-back}
@@ -75,7 +75,7 @@ nearest-24 n a b = go (decLe n (q * q + q))
     go (yes h) = rw (nearest-down n q (wholeRoot-is n) h) s
     go (no f) = let u = nearest-up n q b (wholeRoot-is n) (lt-of-not-le f) in rw (u .0) (le-trans (s .0) (le-add-right q 1), u .1)
 
--- with a digit dropped it has at most 23
+-- with a digit dropped it is at most 2 ^ 23
 pub nearest-23 : (n q k : ℕ) → IsRoot n q → q < 2 ^ 24 → 0 < k → nearestRoot n k ≤ 2 ^ 23
 unfolding nearestRoot
 nearest-23 n q k r u h =
@@ -84,23 +84,23 @@ nearest-23 n q k r u h =
     le-trans (nearest-le (w / 2 ^ k) o) (div-lt-iff-lt-mul (pow-pos k) .1 (lt-of-lt-of-le (lt-of-le-of-lt (le-of-eq (root-unique n q (r .0) (r .1))) u) (mul-le-mul-left (2 ^ 23) (pow-mono h))))
 
 -- ---- the rounding
--- √n * 2 ^ e / 2 ^ l
-abbrev pub exactAt : ℕ → ℕ → ℕ → Exact
-exactAt n e l = record { radicand = n * 4 ^ e; places = l }
+-- √n * 2 ^ e / 2 ^ 173
+abbrev pub exactAt : ℕ → ℕ → Exact
+exactAt n e = record { radicand = n * 4 ^ e; places = 173 }
 
 pub size-24 : (n : ℕ) → 2 ^ 46 ≤ n → n ≤ 2 ^ 48 - 2 ^ 24 → size (wholeRoot n) ≡ 24
 size-24 n a b = let s = root-24 n (wholeRoot n) a b (wholeRoot-is n) in size-exact (wholeRoot n) 23 (s .0) (s .1)
 
-pub rounding-at : (n e l : ℕ) → 2 ^ 46 ≤ n → n ≤ 2 ^ 48 - 2 ^ 24 → rounding binary32 (exactAt n e l) ≡ odd 25 false (nearestRoot n 0) e l
+pub rounding-at : (n e : ℕ) → 2 ^ 46 ≤ n → n ≤ 2 ^ 48 - 2 ^ 24 → rounding binary32 (exactAt n e) ≡ odd 25 false (nearestRoot n 0) e 173
 unfolding rounding
-rounding-at n e l a b =
+rounding-at n e a b =
     let i = e + 24 in
     let more : n * 4 ^ e * 4 ^ 24 ≡ n * 4 ^ i = mul-assoc n (4 ^ e) (4 ^ 24) ∙ ap (λ (x : ℕ). n * x) (sym (pow-add 4 e 24)) in
     let digits : size (wholeRoot (n * 4 ^ i)) - 24 ≡ i = ap (λ (x : ℕ). x - 24) (size-root n i (lt-of-lt-of-le (lit< tt) a) ∙ ap (λ (x : ℕ). x + i) (size-24 n a b)) ∙ less i in
-    ap (λ (m : ℕ). odd 25 false (nearestRoot m (size (wholeRoot m) - 24)) (size (wholeRoot m) - 24) (l + 24)) more
-    ∙ ap (λ (k : ℕ). odd 25 false (nearestRoot (n * 4 ^ i) k) k (l + 24)) digits
-    ∙ ap (λ (q : ℕ). odd 25 false q i (l + 24)) (ap (nearestRoot (n * 4 ^ i)) (sym (zero-add i)) ∙ nearest-scale n 0 i)
-    ∙ odd-same 25 false (nearestRoot n 0) i (l + 24) e l (omega arith)
+    ap (λ (m : ℕ). odd 25 false (nearestRoot m (size (wholeRoot m) - 24)) (size (wholeRoot m) - 24) 197) more
+    ∙ ap (λ (k : ℕ). odd 25 false (nearestRoot (n * 4 ^ i) k) k 197) digits
+    ∙ ap (λ (q : ℕ). odd 25 false q i 197) (ap (nearestRoot (n * 4 ^ i)) (sym (zero-add i)) ∙ nearest-scale n 0 i)
+    ∙ odd-same 25 false (nearestRoot n 0) i 197 e 173 (omega arith)
   where
     less : (x : ℕ) → 24 + x - 24 ≡ x
     less x = omega arith
@@ -133,42 +133,42 @@ module _ (n e : ℕ) (a : 2 ^ 46 ≤ n) (b : n ≤ 2 ^ 48 - 2 ^ 24) where
   not-tiny h = mul-le-mul-right (4 ^ 126) (mul-le-mul a (pow-le-pow-right (lit< tt) h))
 
   -- below the least normal number: a number of smallest values
-  pub range-tiny : (y : Float) → e < 24 → exponentRange binary32 (exactAt n e 173) y ≡ odd 25 false (nearestRoot n (24 - e)) 0 149
+  pub range-tiny : (y : Float) → e < 24 → exponentRange binary32 (exactAt n e) y ≡ odd 25 false (nearestRoot n (24 - e)) 0 149
   unfolding exponentRange
   range-tiny y h =
       let more : n * 4 ^ e * 4 ^ 149 ≡ n * 4 ^ (e + 149) = mul-assoc n (4 ^ e) (4 ^ 149) ∙ ap (λ (x : ℕ). n * x) (sym (pow-add 4 e 149)) in
       let places : 173 ≡ 24 - e + (e + 149) = omega arith in
-      ap (λ (z : Bool). cond z (odd 25 false (nearestRoot (n * 4 ^ e * 4 ^ 149) 173) 0 149) (cond (lt y (fin false 1 (pos (overflow binary32)))) y (inf false))) (is-true (ltb (n * 4 ^ e * 4 ^ 126) (4 ^ 173)) (lt→ltb (n * 4 ^ e * 4 ^ 126) (4 ^ 173) (tiny h)))
+      ap (λ (z : Bool). cond z (odd 25 false (nearestRoot (n * 4 ^ e * 4 ^ 149) 173) 0 149) (cond (lt y (fin false 1 (pos (overflowExponent binary32)))) y (inf false))) (is-true (ltb (n * 4 ^ e * 4 ^ 126) (4 ^ 173)) (lt→ltb (n * 4 ^ e * 4 ^ 126) (4 ^ 173) (tiny h)))
       ∙ ap (λ (q : ℕ). odd 25 false q 0 149) (ap (λ (m : ℕ). nearestRoot m 173) more ∙ ap (nearestRoot (n * 4 ^ (e + 149))) places ∙ nearest-scale n (24 - e) (e + 149))
 
-  range-else : (y : Float) → 24 ≤ e → exponentRange binary32 (exactAt n e 173) y ≡ cond (lt y (fin false 1 (pos (overflow binary32)))) y (inf false)
+  range-else : (y : Float) → 24 ≤ e → exponentRange binary32 (exactAt n e) y ≡ cond (lt y (fin false 1 (pos (overflowExponent binary32)))) y (inf false)
   unfolding exponentRange
   range-else y h =
-      ap (λ (z : Bool). cond z (odd 25 false (nearestRoot (n * 4 ^ e * 4 ^ 149) 173) 0 149) (cond (lt y (fin false 1 (pos (overflow binary32)))) y (inf false)))
+      ap (λ (z : Bool). cond z (odd 25 false (nearestRoot (n * 4 ^ e * 4 ^ 149) 173) 0 149) (cond (lt y (fin false 1 (pos (overflowExponent binary32)))) y (inf false)))
       (is-false (ltb (n * 4 ^ e * 4 ^ 126) (4 ^ 173)) (not-T (ltb (n * 4 ^ e * 4 ^ 126) (4 ^ 173)) (λ (t : T (ltb (n * 4 ^ e * 4 ^ 126) (4 ^ 173))). not-le-of-lt (ltb→lt (n * 4 ^ e * 4 ^ 126) (4 ^ 173) t) (not-tiny h))))
 
   module _ (r : ℕ) (l : 2 ^ 23 ≤ r) (u : r < 2 ^ 24) where
-    below : lt (odd 25 false r e 173) (fin false 1 (pos (overflow binary32))) ≡ ltb (r * 2 ^ e) (2 ^ overflow binary32 * 2 ^ 173)
-    below = below-power (odd 25 false r e 173) (r * 2 ^ e) (2 ^ 173) (overflow binary32) (pow-pos 173) (odd-sign 25 false r e 173)
+    below : lt (odd 25 false r e 173) (fin false 1 (pos (overflowExponent binary32))) ≡ ltb (r * 2 ^ e) (2 ^ overflowExponent binary32 * 2 ^ 173)
+    below = below-power (odd 25 false r e 173) (r * 2 ^ e) (2 ^ 173) (overflowExponent binary32) (pow-pos 173) (odd-sign 25 false r e 173)
 
     -- beyond the e of emax: infinity
-    pub range-large : {E : ℕ} → 2 ^ overflow binary32 * 2 ^ 173 ≤ 2 ^ 23 * 2 ^ suc E → 24 ≤ E → E < e → exponentRange binary32 (exactAt n e 173) (odd 25 false r e 173) ≡ inf false
+    pub range-large : {E : ℕ} → 2 ^ overflowExponent binary32 * 2 ^ 173 ≤ 2 ^ 23 * 2 ^ suc E → 24 ≤ E → E < e → exponentRange binary32 (exactAt n e) (odd 25 false r e 173) ≡ inf false
     range-large top g h =
-        let s : 2 ^ overflow binary32 * 2 ^ 173 ≤ r * 2 ^ e = le-trans top (mul-le-mul l (pow-mono h)) in
+        let s : 2 ^ overflowExponent binary32 * 2 ^ 173 ≤ r * 2 ^ e = le-trans top (mul-le-mul l (pow-mono h)) in
         let y = odd 25 false r e 173 in
         range-else y (le-trans g (le-of-lt h))
-        ∙ ap (λ (z : Bool). cond z y (inf false)) (below ∙ is-false (ltb (r * 2 ^ e) (2 ^ overflow binary32 * 2 ^ 173)) (not-T (ltb (r * 2 ^ e) (2 ^ overflow binary32 * 2 ^ 173)) (λ (t : T (ltb (r * 2 ^ e) (2 ^ overflow binary32 * 2 ^ 173))). not-le-of-lt (ltb→lt (r * 2 ^ e) (2 ^ overflow binary32 * 2 ^ 173) t) s)))
+        ∙ ap (λ (z : Bool). cond z y (inf false)) (below ∙ is-false (ltb (r * 2 ^ e) (2 ^ overflowExponent binary32 * 2 ^ 173)) (not-T (ltb (r * 2 ^ e) (2 ^ overflowExponent binary32 * 2 ^ 173)) (λ (t : T (ltb (r * 2 ^ e) (2 ^ overflowExponent binary32 * 2 ^ 173))). not-le-of-lt (ltb→lt (r * 2 ^ e) (2 ^ overflowExponent binary32 * 2 ^ 173) t) s)))
 
     -- between: nothing changes
-    pub range-inside : {E : ℕ} → 2 ^ 24 * 2 ^ E ≤ 2 ^ overflow binary32 * 2 ^ 173 → 24 ≤ e → e ≤ E → exponentRange binary32 (exactAt n e 173) (odd 25 false r e 173) ≡ odd 25 false r e 173
+    pub range-inside : {E : ℕ} → 2 ^ 24 * 2 ^ E ≤ 2 ^ overflowExponent binary32 * 2 ^ 173 → 24 ≤ e → e ≤ E → exponentRange binary32 (exactAt n e) (odd 25 false r e 173) ≡ odd 25 false r e 173
     range-inside top g h =
-        let s : r * 2 ^ e < 2 ^ overflow binary32 * 2 ^ 173 = lt-of-lt-of-le (mul-lt-mul-of-pos-right u (pow-pos e)) (le-trans (mul-le-mul-left (2 ^ 24) (pow-mono h)) top) in
+        let s : r * 2 ^ e < 2 ^ overflowExponent binary32 * 2 ^ 173 = lt-of-lt-of-le (mul-lt-mul-of-pos-right u (pow-pos e)) (le-trans (mul-le-mul-left (2 ^ 24) (pow-mono h)) top) in
         let y = odd 25 false r e 173 in
-        range-else y g ∙ ap (λ (z : Bool). cond z y (inf false)) (below ∙ is-true (ltb (r * 2 ^ e) (2 ^ overflow binary32 * 2 ^ 173)) (lt→ltb (r * 2 ^ e) (2 ^ overflow binary32 * 2 ^ 173) s))
+        range-else y g ∙ ap (λ (z : Bool). cond z y (inf false)) (below ∙ is-true (ltb (r * 2 ^ e) (2 ^ overflowExponent binary32 * 2 ^ 173)) (lt→ltb (r * 2 ^ e) (2 ^ overflowExponent binary32 * 2 ^ 173) s))
 
 -- ---- patterns
 -- the pattern of a number of `a` smallest values
-bits-of : (x : Float) (a : ℕ) → HasValue x false a (2 ^ 149) → toBits binary32 x ≡ (size a - 24) * 8388608 + a / 2 ^ (size a - 24)
+pub bits-of : (x : Float) (a : ℕ) → HasValue x false a (2 ^ 149) → toBits binary32 x ≡ (size a - 24) * 8388608 + a / 2 ^ (size a - 24)
 unfolding toBits
 bits-of nan a h = absurd h
 bits-of (inf s) a h = absurd h

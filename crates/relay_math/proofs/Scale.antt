@@ -12,7 +12,7 @@ use lib.Ieee.{Float, nan, inf, fin, Format, prec, emax, low, up, down, size, nea
 use lib.Ieee.Exact.{HasValue}
 use lib.Ieee.Positive.{first-pos}
 use lib.Ieee.Digits.{size-lt, size-le, size-reaches}
-use Rattle.relay_math.specs.Root.{Exact, behind, overflow, wholeRoot, nearestRoot, unlimitedPrecision, rounding, exponentRange}
+use Rattle.relay_math.specs.Root.{Exact, behind, overflowExponent, wholeRoot, nearestRoot, unlimitedPrecision, rounding, exponentRange}
 use Rattle.relay_math.specs.RootCode.{SameRoot}
 use Rattle.relay_math.proofs.Nearest.{Cmp, cmp}
 use Rattle.relay_math.proofs.Squares.{sq-lt-back}
@@ -87,9 +87,13 @@ nearest-scale n k i =
     ∙ ap (nearest q) (compare-multiples (4 * n) (h * h) (4 ^ i) (four-pos i))
 
 -- ---- digits
+-- a number from 2 ^ k on has more than k digits
+pub size-gt : (a k : ℕ) → 2 ^ k ≤ a → k < size a
+size-gt a k l = lt-of-not-le (λ (h : size a ≤ k). not-le-of-lt (size-lt a) (le-trans (pow-mono h) l))
+
 -- the number of digits, from the powers of two about a number
 pub size-exact : (a k : ℕ) → 2 ^ k ≤ a → a < 2 ^ suc k → size a ≡ suc k
-size-exact a k l u = le-antisymm (size-le a (suc k) u) (lt-of-not-le (λ (h : size a ≤ k). not-le-of-lt (size-lt a) (le-trans (pow-mono h) l)))
+size-exact a k l u = le-antisymm (size-le a (suc k) u) (size-gt a k l)
 
 -- a number between multiples of 2 ^ i has i digits more
 pub size-between : (a w i : ℕ) → 0 < w → w * 2 ^ i ≤ a → a < (w + 1) * 2 ^ i → size a ≡ size w + i
@@ -147,14 +151,18 @@ unfolding odd
 odd-same d s zero k l k' l' e = refl
 odd-same d s (suc q) k l k' l' e = let t = trailingZeros d (suc q) in ap (fin s (suc q / 2 ^ t)) (minus-same (k + t) l (k' + t) l' (omega arith))
 
-pub below-multiples : (a b c : ℕ) → 0 < c → ltb (a * c) (b * c) ≡ ltb a b
-below-multiples a b c p = go (ltb (a * c) (b * c)) (ltb a b) (ltb→lt (a * c) (b * c)) (lt→ltb (a * c) (b * c)) (ltb→lt a b) (lt→ltb a b)
+-- two tests that follow from each other
+pub ltb-same : (a b c d : ℕ) → (a < b → c < d) → (c < d → a < b) → ltb a b ≡ ltb c d
+ltb-same a b c d f g = go (ltb a b) (ltb c d) (ltb→lt a b) (lt→ltb a b) (ltb→lt c d) (lt→ltb c d)
   where
-    go : (x y : Bool) → (T x → a * c < b * c) → (a * c < b * c → T x) → (T y → a < b) → (a < b → T y) → x ≡ y
-    go true true h k g l = refl
-    go true false h k g l = absurd (l (lt-of-mul-lt-mul-right c (h tt)))
-    go false true h k g l = absurd (k (mul-lt-mul-of-pos-right (g tt) p))
-    go false false h k g l = refl
+    go : (x y : Bool) → (T x → a < b) → (a < b → T x) → (T y → c < d) → (c < d → T y) → x ≡ y
+    go true true p q r s = refl
+    go true false p q r s = absurd (s (f (p tt)))
+    go false true p q r s = absurd (q (g (r tt)))
+    go false false p q r s = refl
+
+pub below-multiples : (a b c : ℕ) → 0 < c → ltb (a * c) (b * c) ≡ ltb a b
+below-multiples a b c p = ltb-same (a * c) (b * c) a b (lt-of-mul-lt-mul-right c) (λ (h : a < b). mul-lt-mul-of-pos-right h p)
 
 -- ---- the last two steps
 -- √n / 2 ^ l, written with i places more
@@ -182,7 +190,7 @@ unfolding exponentRange
 range-scale f x i y =
     let n = x .radicand in
     let l = x .places in
-    let rest = cond (lt y (fin false 1 (pos (overflow f)))) y (inf false) in
+    let rest = cond (lt y (fin false 1 (pos (overflowExponent f)))) y (inf false) in
     let tiny : ltb (n * 4 ^ i * 4 ^ (emax f - 1)) (4 ^ (l + i)) ≡ ltb (n * 4 ^ (emax f - 1)) (4 ^ l) =
     ap (λ (a : ℕ). ltb a (4 ^ (l + i))) (mul-right-comm n (4 ^ i) (4 ^ (emax f - 1)))
     ∙ ap (ltb (n * 4 ^ (emax f - 1) * 4 ^ i)) (pow-add 4 l i)

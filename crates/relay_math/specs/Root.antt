@@ -17,20 +17,20 @@ rootBy (suc d) n = let r = rootBy d (n / 4) in cond (leb ((2 * r + 1) * (2 * r +
 unfoldable pub wholeRoot : ℕ → ℕ
 wholeRoot n = rootBy (size n) n
 
--- The whole number nearest to √n / 2 ^ k, at a tie the even one. √n / 2 ^ k is below q + 1 / 2 where 4 * n is below the square of 2 * q + 1, all times 2 ^ k.
+-- The whole number nearest to √n / 2 ^ k, at a tie the even one. √n / 2 ^ k is below q + 1 / 2 where 4 * n is below the square of (2 * q + 1) * 2 ^ k.
 unfoldable pub nearestRoot : ℕ → ℕ → ℕ
 nearestRoot n k =
     let q = wholeRoot n / 2 ^ k in
     let h = (2 * q + 1) * 2 ^ k in
     nearest q (compare (4 * n) (h * h))
 
--- a number from zero up to unlimited precision: √radicand / 2 ^ places
+-- a number of zero or above, to unlimited precision: √radicand / 2 ^ places
 pub record Exact : Type 0 where
   pub radicand : ℕ
   pub places : ℕ
 
 -- ---- the four steps, with the standard's clauses
--- 1. The special operands (6.1, 6.2, 6.3, 7.2): plus infinity, NaN and a zero are their own root, and what is below zero has none.
+-- 1. The special operands (6.1, 6.2, 6.3, 7.2): plus infinity, NaN and a zero are their own root, and what is below zero has none: NaN.
 unfoldable pub specialOperands : Float → Operand
 specialOperands nan = Special nan
 specialOperands (inf false) = Special (inf false)
@@ -44,13 +44,13 @@ abbrev pub behind : ℤ → ℕ
 behind (pos k) = 0
 behind (negsuc k) = suc k
 
--- 2. The result as if to unlimited precision (5.1): √(a / c) is √(a * c) / c. It knows no format.
+-- 2. The result as if to unlimited precision (5.1): √(a / c) is √(a * c) / c. It knows no format. Special operands do not come here.
 unfoldable pub unlimitedPrecision : Float → Exact
 unlimitedPrecision nan = record { radicand = 0; places = 0 }
 unlimitedPrecision (inf s) = record { radicand = 0; places = 0 }
 unlimitedPrecision (fin s m e) = record { radicand = m * up e * down e; places = behind e }
 
--- 3. The rounding (4.3.1): to the nearest number of `prec` digits, whatever its exponent. With `prec` places more √n has over `prec` digits before the point, and k of them are dropped.
+-- 3. The rounding (4.3.1, roundTiesToEven): to the nearest number of `prec` digits, whatever its exponent. With `prec` places more √n has over `prec` digits before the point, and k of them are dropped.
 unfoldable pub rounding : Format → Exact → Float
 rounding f x =
     let n = x .radicand * 4 ^ prec f in
@@ -58,15 +58,15 @@ rounding f x =
     odd (suc (prec f)) false (nearestRoot n k) k (x .places + prec f)
 
 -- the exponent of the power of two from which on a number overflows
-abbrev pub overflow : Format → ℕ
-overflow f = suc (emax f)
+abbrev pub overflowExponent : Format → ℕ
+overflowExponent f = suc (emax f)
 
--- 4. The exponent's range (7.4, 7.5) of x, of which y is the rounding. From 2 ^ overflow on y is infinity. An x below the least normal number, 2 ^ (1 - emax), is a whole number of smallest values, rounded from x itself and not from y, which would be rounded twice.
+-- 4. The exponent's range (3.3, 7.4, 7.5) of x, of which y is the rounding. From 2 ^ (emax + 1) on y overflows to infinity. Where x is below the least normal number, 2 ^ (1 - emax), the result is the whole number of smallest values nearest to x itself; the one nearest to y would be rounded twice.
 unfoldable pub exponentRange : Format → Exact → Float → Float
 exponentRange f x y =
     let tiny = ltb (x .radicand * 4 ^ (emax f - 1)) (4 ^ x .places) in
     let smallest = nearestRoot (x .radicand * 4 ^ low f) (x .places) in
-    cond tiny (odd (suc (prec f)) false smallest 0 (low f)) (cond (lt y (fin false 1 (pos (overflow f)))) y (inf false))
+    cond tiny (odd (suc (prec f)) false smallest 0 (low f)) (cond (lt y (fin false 1 (pos (overflowExponent f)))) y (inf false))
 
 -- a special operand's result, and y for any other
 abbrev pub operandOr : Operand → Float → Float

@@ -11,8 +11,8 @@ abbrev pub SameRoot : Exact → Exact → Type 0
 SameRoot x y = x .radicand * 4 ^ y .places ≡ y .radicand * 4 ^ x .places
 
 -- q is the whole root of n, and has 24 digits, also where it is rounded up
-abbrev pub Normal : ExactRoot → Type 0
-Normal x = (2 ^ 46 ≤ x .n) × (x .n ≤ 2 ^ 48 - 2 ^ 24) × (x .q * x .q ≤ x .n) × (x .n < (x .q + 1) * (x .q + 1))
+abbrev pub Digits24 : ExactRoot → Type 0
+Digits24 x = (2 ^ 46 ≤ x .n) × (x .n ≤ 2 ^ 48 - 2 ^ 24) × (x .q * x .q ≤ x .n) × (x .n < (x .q + 1) * (x .q + 1))
 
 -- √n * 2 ^ e / 2 ^ 173
 abbrev pub exactOf : ExactRoot → Exact

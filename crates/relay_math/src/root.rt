@@ -6,7 +6,7 @@ ghost use Prim.Native.Nat.{_+_, _-_, _*_, _/_, _^_, _≤_, _<_};
 ghost use lib.Ieee.{binary32, ofBits};
 ghost use lib.Ieee.Exact.{HasValue};
 ghost use Rattle.relay_math.specs.Root.{nearestRoot, specialOperands, unlimitedPrecision, rounding, exponentRange, root};
-ghost use Rattle.relay_math.specs.RootCode.{SameRoot, Normal, exactOf, roundedOf};
+ghost use Rattle.relay_math.specs.RootCode.{SameRoot, Digits24, exactOf, roundedOf};
 ghost use Rattle.relay_math.specs.declared.root.Operand.the-variants.{AboveZero};
 
 // An operand with a rule of its own and its result, or a finite one above zero.
@@ -21,7 +21,7 @@ struct Radicand {
     c: u64,
 }
 
-// The exact root √n * 2 ^ e / 2 ^ 173: q is the whole root of n and has 24 digits, and n has all that follow. The standard's exponent, that of the leading digit, is e - 150.
+// The exact root √n * 2 ^ e / 2 ^ 173: q is the whole root of n and has 24 digits, and n determines the digits that follow. The standard's exponent, that of the leading digit, is e - 150.
 struct ExactRoot {
     n: u64,
     q: u64,
@@ -35,7 +35,7 @@ impl ExactRoot {
     const EMAX: u64 = 277;
 }
 
-// The radicand of a pattern above zero.
+// The radicand of a pattern between zero's and infinity's.
 fn radicand_of(b: u32) -> Radicand
     requires { ⌜ (0 < b) × (b < 0x7f80_0000) ⌝ }
     ensures { λ r. ⌜ (0x80_0000 ≤ r .m) × (r .m < 0x100_0000) × (174 ≤ r .c) × (r .c ≤ 450) × HasValue (ofBits binary32 b) false (r .m * 2 ^ r .c) (4 ^ 173) ⌝ }
@@ -125,7 +125,7 @@ fn special_operands(x: f32) -> Operand
 // 2. The result as if to unlimited precision (5.1).
 fn unlimited_precision(x: f32) -> ExactRoot
     requires { ⌜ specialOperands x ≡ AboveZero ⌝ }
-    ensures { λ r. ⌜ Normal r × SameRoot (unlimitedPrecision x) (exactOf r) ⌝ }
+    ensures { λ r. ⌜ Digits24 r × SameRoot (unlimitedPrecision x) (exactOf r) ⌝ }
 {
     let s = radicand_of(f32::to_bits(x));
     let odd = s.c % 2;
@@ -138,9 +138,9 @@ fn unlimited_precision(x: f32) -> ExactRoot
     }
 }
 
-// 3. The rounding (4.3.1) to 24 digits: √n is above q + 1 / 2 where n is above q * q + q, and no tie arises.
+// 3. The rounding (4.3.1, roundTiesToEven) to 24 digits: √n is above q + 1 / 2 where n is above q * q + q, and no tie arises.
 fn rounding(x: ExactRoot) -> u64
-    requires { ⌜ Normal x ⌝ }
+    requires { ⌜ Digits24 x ⌝ }
     ensures { λ r. ⌜ (0x80_0000 ≤ r) × (r < 0x100_0000) × (roundedOf x r ≡ rounding binary32 (exactOf x)) ⌝ }
 {
     if x.n - x.q * x.q > x.q {
@@ -149,9 +149,9 @@ fn rounding(x: ExactRoot) -> u64
     x.q
 }
 
-// 4. The exponent's range (7.4, 7.5): below the least normal number the nearest number of smallest values, from 2 ^ 128 on infinity. The leading digit of r adds one to the exponent's field.
+// 4. The exponent's range (3.3, 7.4, 7.5): below the least normal number the nearest number of smallest values, from 2 ^ 128 on infinity. The leading digit of r adds one to the exponent's field.
 fn exponent_range(x: ExactRoot, r: u64) -> f32
-    requires { ⌜ Normal x × (0x80_0000 ≤ r) × (r < 0x100_0000) ⌝ }
+    requires { ⌜ Digits24 x × (0x80_0000 ≤ r) × (r < 0x100_0000) ⌝ }
     ensures { λ y. ⌜ y ≡ exponentRange binary32 (exactOf x) (roundedOf x r) ⌝ }
 {
     if x.e < ExactRoot::EMIN {

@@ -1,5 +1,5 @@
 -- `exponent_range`: below the least normal number, above the largest, and between.
-use Prim.Native.Nat.{ℕ, _-_, _*_, _+_, _^_, _≤_, _<_}
+use Prim.Native.Nat.{ℕ, _-_, _*_, _+_, _^_, _≤_}
 use mathlib.Core.Path.{sym, ap, _∙_}
 use mathlib.Core.Bool.{false}
 use native.Mathlib.Nat.{lt-of-le-of-lt}

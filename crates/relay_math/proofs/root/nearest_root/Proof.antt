@@ -15,7 +15,7 @@ use Rattle.relay_math.proofs.root.nearest_root.Tie as tie
 short : (c : tie.Start) → c .args .q < 2 ^ 24
 short c = sq-lt-back (c .args .q) (2 ^ 24) (lt-of-le-of-lt (c .pre .1) (c .pre .0))
 
--- q + 1 / 2 without its last k digits, doubled
+-- twice the point midway between q without its last k digits and the next multiple of 2 ^ k
 abbrev half : ℕ → ℕ → ℕ
 half q k = (2 * (q / 2 ^ k) + 1) * 2 ^ k
 

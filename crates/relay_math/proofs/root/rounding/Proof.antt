@@ -28,7 +28,7 @@ returns c =
     let x = s .args .x in
     let p = s .pre in
     let u = nearest-up (x .n) (x .q) (p .1) (p .2, p .3) (omega arith) in
-    (le-trans (fits s .0) (le-add-right (x .q) 1), u .1, ap (λ r. odd 25 false r (x .e) 173) (sym (u .0)) ∙ sym (rounding-at (x .n) (x .e) 173 (p .0) (p .1)))
+    (le-trans (fits s .0) (le-add-right (x .q) 1), u .1, ap (λ r. odd 25 false r (x .e) 173) (sym (u .0)) ∙ sym (rounding-at (x .n) (x .e) (p .0) (p .1)))
 
 returns-2 : tie.Need-returns-2
 returns-2 c =
@@ -36,7 +36,7 @@ returns-2 c =
     let x = s .args .x in
     let p = s .pre in
     let d = nearest-down (x .n) (x .q) (p .2, p .3) (omega arith) in
-    (fits s .0, fits s .1, ap (λ r. odd 25 false r (x .e) 173) (sym d) ∙ sym (rounding-at (x .n) (x .e) 173 (p .0) (p .1)))
+    (fits s .0, fits s .1, ap (λ r. odd 25 false r (x .e) 173) (sym d) ∙ sym (rounding-at (x .n) (x .e) (p .0) (p .1)))
 
 pub rounding-spec : {M : Type 1} → statement M
 rounding-spec = tie.close (tie.spec mul-if1 sub-if1 add-result returns returns-2)

@@ -1,5 +1,5 @@
 -- `unlimited_precision`: the pattern's digits with an even exponent, and their whole root.
-use Prim.Native.Nat.{_*_, _%_, _^_, _<_}
+use Prim.Native.Nat.{_*_, _%_, _^_}
 use mathlib.Core.Path.{sym, subst}
 use mathlib.Core.Bool.{false}
 use native.Mathlib.Nat.{lt-of-le-of-lt}
