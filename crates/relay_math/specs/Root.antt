@@ -73,6 +73,7 @@ abbrev pub operandOr : Operand → Float → Float
 operandOr (Special r) y = r
 operandOr AboveZero y = y
 
+-- squareRoot (5.4.1): the four steps in their order
 unfoldable pub rootOf : Format → Float → Float
 rootOf f x = let exact = unlimitedPrecision x in operandOr (specialOperands x) (exponentRange f exact (rounding f exact))
 
