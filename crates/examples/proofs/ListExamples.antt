@@ -13,7 +13,7 @@ use Rattle.relay_batt.specs.declared.battery.Reading.the-variants.{Nothing, Vol
 use Rattle.falcon_guidance.specs.State.{pointOf, origin, zerof}
 use Rattle.falcon_core.specs.Calls.{opens, ticks, reports, commands, plans, points, totals}
 use lib.Ieee.{add, sub, mul, div, neg, lt, eq, le, ne, ofInt, round, units, isNan, size, toBits}
-use Rattle.relay_math.specs.Root.{rootBy, wholeRoot, nearestRoot, specialOperands, unlimitedPrecision, rounding, exponentRange, rootOf}
+use Rattle.relay_math.specs.Root.{rootBy, wholeRoot, nearestRoot, specialOperands, unlimitedPrecision, toDigits, rounding, exponentRange, rootOf}
 use Rattle.relay_math.specs.Small.{maxOf, clampOf}
 use Rattle.relay_fsm.specs.Event.{eventAt}
 use Rattle.relay_fsm.specs.Fsm.{rowOf, onOf}
@@ -243,5 +243,5 @@ seen-in-lists :
     × (countsOf (placeFrom start breached .counted) ≡ 0 ∷ 0 ∷ 0 ∷ 0 ∷ 0 ∷ 1 ∷ 0 ∷ 0 ∷ 3 ∷ [])
     × (map replyNumbers (answersFrom (placeFrom start breached) saving) ≡ saved)
     × (savedOver (placeFrom start breached .supervisor) (replicate 161 7) ≡ columned ++ replicate 26 7)
-unfolding kind7 breached asked totalled noTotals countedOf totalsNumbers countOf countsOf totalsAfter aloneLine saving columned saved saveStep savedOver columnsOf columnsIn scalarColumns configColumns checkColumns batteryNumbers estimatorNumbers stateNumbers silenceNumbers holdColumns countColumns useColumns pointsColumns zonesColumns laterColumns pointColumns zoneColumns placed placeIn opening tick flat calmly tripped tilted quiet flying line worked answered answersFrom modes latches tumble final maxOf clampOf eventAt rowOf onOf allChecks rootOf specialOperands unlimitedPrecision rounding exponentRange nearestRoot wholeRoot rootBy bitOf withBitOf setOf legacyPassedOf failsOf failingMaskOf outstandingOf firstIn firstBlockerOf openedOf heardOf updateOf lostOf runOf defaultOf forPackOf capacityOf cellsOf perCellOf sanitizeOf knots walk tableOf ocvSocCellOf noneOf shownOf newOf resetOf consumedOf bigStepOf blendOf rEstOf restOf socCoulombOf socOf withAmpsOf voltsOnlyOf updateAmpsOf updateVoltsOf tripOf shapeRefusal sequenceRefusal stateRefusal refusalOf commandedBy startOf startPoints plannedOf flightAfter waypointsAfter afterOf outputOf answerOf refusedOf acceptedOf stepOf numbersOf clearedOf breachOf breachGives breachedOf tiltedOf runawayEnough runawayCounted runawayGives runawayOf gustyOf windEnough windCounted windGives windOf reportedOf lengthOf distanceOf horizSpeedOf brakePointOf enteredOf holdRestOf brakedOf leftOf keptOf heldOf heightOf highOf nearHomeOf nearGroundOf distance3Of arrivedOf milestoneGives legOf advancedOf milestoneOf waypointAdmissibleOf pointAtOf triedOf allAdmissibleOf storedOf loadedOf loadedPointsOf waypointAtOf legWaypointOf currentWaypointOf legsOf outsideGeofenceOf geofenceSaneOf navRowsOf integrityRowsOf readinessRowsOf updatePreflightOf escTelemetryOf landingOf setpointOf commandedOf stateOpenedOf unopened checkedOf poweredOf telemetryOf sensedOf afterBreach afterRunaway afterWind afterMilestone holdingOf answeredOf endedOf tickOf givenOf goalOf bearingOf alongOf perpOf obstructsOf threatensOf tangentOf urgencyOf ringOf deflectedOf aroundOf aroundAllOf avoidOf zoneAtOf zonesKeptOf storedZonesOf loadedZonesOf askedLine askedWith lineStep replyOf bufferAfter inRange digits fieldStart spaced readField column columns fieldOf put openingFrom openingLine readingFrom batteryOk tickFrom tickOk tickLine reportLine commandLine pointsLine zonesLine requestOf onto before fields lengthOk readWithin lineOf callStep acceptedRequest placeAfter nextPlace placeFrom start calmFrom ticksFrom add sub mul div neg lt eq le ne ofBits ofInt round units isNan size toBits kindOf needFields needOf extraOf replyNumbers limitFields readingLine ones
+unfolding kind7 breached asked totalled noTotals countedOf totalsNumbers countOf countsOf totalsAfter aloneLine saving columned saved saveStep savedOver columnsOf columnsIn scalarColumns configColumns checkColumns batteryNumbers estimatorNumbers stateNumbers silenceNumbers holdColumns countColumns useColumns pointsColumns zonesColumns laterColumns pointColumns zoneColumns placed placeIn opening tick flat calmly tripped tilted quiet flying line worked answered answersFrom modes latches tumble final maxOf clampOf eventAt rowOf onOf allChecks rootOf specialOperands unlimitedPrecision toDigits rounding exponentRange nearestRoot wholeRoot rootBy bitOf withBitOf setOf legacyPassedOf failsOf failingMaskOf outstandingOf firstIn firstBlockerOf openedOf heardOf updateOf lostOf runOf defaultOf forPackOf capacityOf cellsOf perCellOf sanitizeOf knots walk tableOf ocvSocCellOf noneOf shownOf newOf resetOf consumedOf bigStepOf blendOf rEstOf restOf socCoulombOf socOf withAmpsOf voltsOnlyOf updateAmpsOf updateVoltsOf tripOf shapeRefusal sequenceRefusal stateRefusal refusalOf commandedBy startOf startPoints plannedOf flightAfter waypointsAfter afterOf outputOf answerOf refusedOf acceptedOf stepOf numbersOf clearedOf breachOf breachGives breachedOf tiltedOf runawayEnough runawayCounted runawayGives runawayOf gustyOf windEnough windCounted windGives windOf reportedOf lengthOf distanceOf horizSpeedOf brakePointOf enteredOf holdRestOf brakedOf leftOf keptOf heldOf heightOf highOf nearHomeOf nearGroundOf distance3Of arrivedOf milestoneGives legOf advancedOf milestoneOf waypointAdmissibleOf pointAtOf triedOf allAdmissibleOf storedOf loadedOf loadedPointsOf waypointAtOf legWaypointOf currentWaypointOf legsOf outsideGeofenceOf geofenceSaneOf navRowsOf integrityRowsOf readinessRowsOf updatePreflightOf escTelemetryOf landingOf setpointOf commandedOf stateOpenedOf unopened checkedOf poweredOf telemetryOf sensedOf afterBreach afterRunaway afterWind afterMilestone holdingOf answeredOf endedOf tickOf givenOf goalOf bearingOf alongOf perpOf obstructsOf threatensOf tangentOf urgencyOf ringOf deflectedOf aroundOf aroundAllOf avoidOf zoneAtOf zonesKeptOf storedZonesOf loadedZonesOf askedLine askedWith lineStep replyOf bufferAfter inRange digits fieldStart spaced readField column columns fieldOf put openingFrom openingLine readingFrom batteryOk tickFrom tickOk tickLine reportLine commandLine pointsLine zonesLine requestOf onto before fields lengthOk readWithin lineOf callStep acceptedRequest placeAfter nextPlace placeFrom start calmFrom ticksFrom add sub mul div neg lt eq le ne ofBits ofInt round units isNan size toBits kindOf needFields needOf extraOf replyNumbers limitFields readingLine ones
 seen-in-lists = (refl, refl, refl, refl, refl, refl, refl, refl, refl, refl, refl)

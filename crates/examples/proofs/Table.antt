@@ -2,7 +2,7 @@
 use mathlib.Core.Path.{_≡_, refl}
 use mathlib.Core.Bool.{true}
 use lib.Ieee.{ofBits, toBits, units, add, sub, mul, lt, le}
-use Rattle.relay_math.specs.Root.{rootBy, wholeRoot, nearestRoot, specialOperands, unlimitedPrecision, rounding, exponentRange, rootOf}
+use Rattle.relay_math.specs.Root.{rootBy, wholeRoot, nearestRoot, specialOperands, unlimitedPrecision, toDigits, rounding, exponentRange, rootOf}
 use Rattle.relay_math.specs.Small.{clampOf}
 use Rattle.relay_batt.specs.Curve.{sanitizeOf, knots, walk, tableOf, ocvSocCellOf}
 use Rattle.relay_fsm.specs.Fsm.{rowOf, onOf}
@@ -15,5 +15,5 @@ use Rattle.falcon_guidance.specs.Mission.{waypointAdmissibleOf}
 use Rattle.examples.specs.Examples.{rows, agree}
 
 twelve : agree rows ≡ true
-unfolding rows agree ofBits toBits units add sub mul lt le rootOf specialOperands unlimitedPrecision rounding exponentRange nearestRoot wholeRoot rootBy clampOf sanitizeOf knots walk tableOf ocvSocCellOf rowOf onOf graverOf bumpOf policyActionOf allChecks bitOf failsOf firstIn firstBlockerOf lengthOf distanceOf waypointAdmissibleOf
+unfolding rows agree ofBits toBits units add sub mul lt le rootOf specialOperands unlimitedPrecision toDigits rounding exponentRange nearestRoot wholeRoot rootBy clampOf sanitizeOf knots walk tableOf ocvSocCellOf rowOf onOf graverOf bumpOf policyActionOf allChecks bitOf failsOf firstIn firstBlockerOf lengthOf distanceOf waypointAdmissibleOf
 twelve = refl

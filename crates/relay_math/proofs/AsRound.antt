@@ -14,7 +14,7 @@ use lib.Ieee.Fits.{nearest-le, round-is}
 use lib.Ieee.Nearest.{closest, closest-same}
 use lib.Ieee.Bits.{is-true}
 use lib.Ieee.Scale.{normal-of-fraction}
-use Rattle.relay_math.specs.Root.{Exact, rootBy, wholeRoot, nearestRoot, rounding, exponentRange}
+use Rattle.relay_math.specs.Root.{Exact, rootBy, wholeRoot, nearestRoot, toDigits, rounding, exponentRange}
 use Rattle.relay_math.proofs.Nearest.{Cmp, cmp}
 use Rattle.relay_math.proofs.Rounding.{below-power}
 use Rattle.relay_math.proofs.Scale.{compare-is, four, size-gt, size-between, odd-same, ltb-same}
@@ -80,7 +80,7 @@ size-cut n l h =
 -- ---- the rounding of an exact number
 -- size a of the digits of a * 2 ^ prec are dropped
 rounding-of-exact : (f : Format) (a l : ℕ) → 0 < a → rounding f (exactly a l) ≡ odd (suc (prec f)) false (closest (a * 2 ^ prec f) (2 ^ size a)) (size a) (l + prec f)
-unfolding rounding
+unfolding rounding toDigits
 rounding-of-exact f a l h =
     let p = prec f in
     let b = a * 2 ^ p in
@@ -205,7 +205,7 @@ as-round f a l =
 -- ---- the exponent's range changes what the rounding gives
 -- 2 ^ 127 times 2 ^ 127: the rounding keeps 2 ^ 254
 large-rounded : rounding binary32 (exactly (2 ^ 254) 0) ≡ fin false 1 (pos 254)
-unfolding rounding nearestRoot wholeRoot rootBy size odd
+unfolding rounding toDigits nearestRoot wholeRoot rootBy size odd
 large-rounded = refl
 
 -- the range makes it infinity
@@ -220,7 +220,7 @@ large-product = refl
 
 -- 2 ^ -100 times 2 ^ -100: the rounding keeps 2 ^ -200
 small-rounded : rounding binary32 (exactly 1 200) ≡ fin false 1 (negsuc 199)
-unfolding rounding nearestRoot wholeRoot rootBy size odd
+unfolding rounding toDigits nearestRoot wholeRoot rootBy size odd
 small-rounded = refl
 
 -- the range makes it zero
@@ -235,7 +235,7 @@ small-product = refl
 
 -- just above half the smallest value: the rounding gives the half itself
 half-rounded : rounding binary32 (exactly (2 ^ 30 + 1) 180) ≡ fin false 1 (negsuc 149)
-unfolding rounding nearestRoot wholeRoot rootBy size odd
+unfolding rounding toDigits nearestRoot wholeRoot rootBy size odd
 half-rounded = refl
 
 -- the half, rounded again, would be zero

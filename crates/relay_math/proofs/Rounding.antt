@@ -14,7 +14,7 @@ use lib.Ieee.Digits.{size-le}
 use lib.Ieee.Exact.{HasValue, odd-sign}
 use lib.Ieee.Fits.{down-pos, nearest-le, odd-fits}
 use lib.Ieee.Bits.{is-true, is-false, ofBits-toBits}
-use Rattle.relay_math.specs.Root.{Exact, overflowExponent, wholeRoot, nearestRoot, rounding, exponentRange}
+use Rattle.relay_math.specs.Root.{Exact, overflowExponent, wholeRoot, nearestRoot, toDigits, rounding, exponentRange}
 use Rattle.relay_math.proofs.Nearest.{Cmp}
 use Rattle.relay_math.proofs.Scale.{compare-is, four-pos, nearest-scale, size-exact, size-between, size-root, odd-same, below-multiples}
 use Rattle.relay_math.proofs.Squares.{odd-sq, sq-lt-back}
@@ -92,7 +92,7 @@ pub size-24 : (n : ℕ) → 2 ^ 46 ≤ n → n ≤ 2 ^ 48 - 2 ^ 24 → size (who
 size-24 n a b = let s = root-24 n (wholeRoot n) a b (wholeRoot-is n) in size-exact (wholeRoot n) 23 (s .0) (s .1)
 
 pub rounding-at : (n e : ℕ) → 2 ^ 46 ≤ n → n ≤ 2 ^ 48 - 2 ^ 24 → rounding binary32 (exactAt n e) ≡ odd 25 false (nearestRoot n 0) e 173
-unfolding rounding
+unfolding rounding toDigits
 rounding-at n e a b =
     let i = e + 24 in
     let more : n * 4 ^ e * 4 ^ 24 ≡ n * 4 ^ i = mul-assoc n (4 ^ e) (4 ^ 24) ∙ ap (λ (x : ℕ). n * x) (sym (pow-add 4 e 24)) in

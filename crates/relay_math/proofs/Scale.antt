@@ -12,7 +12,7 @@ use lib.Ieee.{Float, nan, inf, fin, Format, prec, emax, low, up, down, size, nea
 use lib.Ieee.Exact.{HasValue}
 use lib.Ieee.Positive.{first-pos}
 use lib.Ieee.Digits.{size-lt, size-le, size-reaches}
-use Rattle.relay_math.specs.Root.{Exact, behind, overflowExponent, wholeRoot, nearestRoot, unlimitedPrecision, rounding, exponentRange}
+use Rattle.relay_math.specs.Root.{Exact, behind, overflowExponent, wholeRoot, nearestRoot, unlimitedPrecision, toDigits, rounding, exponentRange}
 use Rattle.relay_math.specs.RootCode.{SameRoot}
 use Rattle.relay_math.proofs.Nearest.{Cmp, cmp}
 use Rattle.relay_math.proofs.Squares.{sq-lt-back}
@@ -169,10 +169,9 @@ below-multiples a b c p = ltb-same (a * c) (b * c) a b (lt-of-mul-lt-mul-right c
 abbrev scaled : Exact → ℕ → Exact
 scaled x i = record { radicand = x .radicand * 4 ^ i; places = x .places + i }
 
-rounding-scale : (f : Format) (x : Exact) (i : ℕ) → 0 < x .radicand → rounding f (scaled x i) ≡ rounding f x
-unfolding rounding
-rounding-scale f x i p =
-    let d = prec f in
+digits-scale : (d : ℕ) (x : Exact) (i : ℕ) → 0 < x .radicand → toDigits d (scaled x i) ≡ toDigits d x
+unfolding toDigits
+digits-scale d x i p =
     let n = x .radicand * 4 ^ d in
     let k = size (wholeRoot n) - d in
     let more : x .radicand * 4 ^ i * 4 ^ d ≡ n * 4 ^ i = mul-right-comm (x .radicand) (4 ^ i) (4 ^ d) in
@@ -205,9 +204,10 @@ module _ (f : Format) (x y : Exact) (same : SameRoot x y) where
 
   -- the rounding is that of the number
   pub same-rounding : 0 < y .radicand → rounding f x ≡ rounding f y
+  unfolding rounding
   same-rounding p =
       let q : 0 < x .radicand = first-pos (x .radicand) (4 ^ y .places) (subst (λ (n : ℕ). 0 < n) (sym same) (mul-pos p (four-pos (x .places)))) in
-      sym (rounding-scale f x (y .places) q) ∙ ap (rounding f) one ∙ rounding-scale f y (x .places) p
+      sym (digits-scale _ x (y .places) q) ∙ ap (toDigits _) one ∙ digits-scale _ y (x .places) p
 
   -- and so is the exponent's range
   pub same-range : (z : Float) → exponentRange f x z ≡ exponentRange f y z

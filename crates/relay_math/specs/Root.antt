@@ -50,12 +50,16 @@ unlimitedPrecision nan = record { radicand = 0; places = 0 }
 unlimitedPrecision (inf s) = record { radicand = 0; places = 0 }
 unlimitedPrecision (fin s m e) = record { radicand = m * up e * down e; places = behind e }
 
--- 3. The rounding (4.3.1, roundTiesToEven): to the nearest number of `prec` digits, whatever its exponent. With `prec` places more √n has over `prec` digits before the point, and k of them are dropped.
+-- The nearest number of d digits, at a tie the even one, whatever its exponent. With d places more √n has over d digits before the point, and k of them are dropped.
+unfoldable pub toDigits : ℕ → Exact → Float
+toDigits d x =
+    let n = x .radicand * 4 ^ d in
+    let k = size (wholeRoot n) - d in
+    odd (suc d) false (nearestRoot n k) k (x .places + d)
+
+-- 3. The rounding (4.3.1, roundTiesToEven): to the format's digits.
 unfoldable pub rounding : Format → Exact → Float
-rounding f x =
-    let n = x .radicand * 4 ^ prec f in
-    let k = size (wholeRoot n) - prec f in
-    odd (suc (prec f)) false (nearestRoot n k) k (x .places + prec f)
+rounding f x = toDigits (prec f) x
 
 -- the exponent of the power of two from which on a number overflows
 abbrev pub overflowExponent : Format → ℕ
