@@ -126,7 +126,7 @@ def main():
                 print(f"{n} -> {new}  ({names[n]})")
         print(len(turned), "names")
         return
-    keep = re.compile(r"(\.\s*)?(?<![^\s(){}\[\];,«».|:\\`\"“”])([a-z][^\s(){}\[\];,«».|:\\`\"“”]*)")
+    keep = re.compile(r"(\.)?(?<![^\s(){}\[\];,«».|:\\`\"“”])([a-z][^\s(){}\[\];,«».|:\\`\"“”]*)")
 
     def turn(text):
         def one(m):

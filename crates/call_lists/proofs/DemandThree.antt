@@ -147,7 +147,7 @@ module _ (p : Place) (t : Tick) (i : Holding p) where
       go : (x : Bool) → in_air ≡ x → (p.mode ≡ Terminated → ⊥) × ((ticked_flight p t i).fsm.mode ≡ Terminated)
       go true e =
           let r : run (now ∷ p.began) ≡ suc (run p.began) = run_now p t i ∙ rw e in
-          ((λ q. no-air p.supervisor.flight.fsm.mode (tilted_of t) (sym i.mode_is ∙ q) e), tick_terminates p t i e (omega (arith, r, k)))
+          ((λ q. no_air p.supervisor.flight.fsm.mode (tilted_of t) (sym i.mode_is ∙ q) e), tick_terminates p t i e (omega (arith, r, k)))
       go false e = let r : run (now ∷ p.began) ≡ 0 = run_now p t i ∙ rw e in absurd (omega (arith, r, k))
 
 fifty_seen :
@@ -274,7 +274,7 @@ placed l = place_holding start l start_holding
 pub demand3 : Demand3
 demand3 calls =
     record {
-      two_ticks = λ here further rest e. two-tick-rule (place_at_of here) further (placed here);
-      rank_kept = λ here c rest e. rank-rule (place_at_of here) c (placed here);
-      fifty_ticks = λ here c rest e. fifty-rule (place_at_of here) c (placed here);
+      two_ticks = λ here further rest e. two_tick_rule (place_at_of here) further (placed here);
+      rank_kept = λ here c rest e. rank_rule (place_at_of here) c (placed here);
+      fifty_ticks = λ here c rest e. fifty_rule (place_at_of here) c (placed here);
     }

@@ -1,4 +1,6 @@
 // Lists of calls: definitions, and what holds of every such list.
+#![tactic(auto)]
+
 ghost use Rattle.call_lists.specs.DayTotals.{DayTotalsShown};
 ghost use Rattle.call_lists.specs.Demand3.{Demand3};
 ghost use Rattle.call_lists.specs.Records.{RecordBack, WrittenAlike};

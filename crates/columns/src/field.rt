@@ -33,7 +33,7 @@ const PAIRS: u64 = 0x00ff_00ff_00ff_00ff;
 const FOURS: u64 = 0x0000_ffff_0000_ffff;
 
 // What a field says.
-#[derive(Drop)]
+#[derive(Clone, Copy)]
 pub enum FieldRead {
     Number(u32),
     Bad,

@@ -9,7 +9,7 @@ use crate::field::{FIELD, FieldRead, read_field};
 pub const LINE_FIELDS: usize = 130;
 
 // What a line says: how many numbers, which the caller's array holds, or that it is no sheet line, or that it has more fields than the array has places.
-#[derive(Drop)]
+#[derive(Clone, Copy)]
 pub enum LineRead {
     Numbers(usize),
     Broken,

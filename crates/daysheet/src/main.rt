@@ -1,4 +1,5 @@
 // Reads a sheet from standard input and answers each of its lines on standard output. A read or a write that fails is said on standard error.
+#![tactic(auto)]
 
 ghost use Rattle.std.specs.Prelude.{◌≤◌, ◌<◌, ◌≡◌, [], length, take};
 ghost use Rattle.sheet.specs.Lines.{kept_width, whole, joined, last_line, states_after};
@@ -11,14 +12,14 @@ use sheet::lines::keep;
 use sheet::many::answer_lines;
 
 // How many bytes are at hand after a read, and whether it did not fail.
-#[derive(Drop)]
+#[derive(Clone, Copy)]
 struct Filled {
     end: usize,
     is_read: bool,
 }
 
 // The state after the lines of a read, the bytes that they took, and whether all answers so far were written.
-#[derive(Drop)]
+#[derive(Clone, Copy)]
 struct Drained {
     supervisor: Supervisor,
     used: usize,
@@ -26,7 +27,7 @@ struct Drained {
 }
 
 // The state and the bytes at hand after a read, whether it and all writes so far did not fail, and whether more may be read.
-#[derive(Drop)]
+#[derive(Clone, Copy)]
 struct Kept {
     supervisor: Supervisor,
     have: usize,

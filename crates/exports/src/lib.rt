@@ -1,4 +1,5 @@
 // `extern "C"` functions for the harness: numbers and slices of numbers, a float as its bits. A flag is 1 where it is true; 0 is answered where it is false, and any number but 1 is read so.
+#![tactic(auto)]
 
 pub mod batt;
 pub mod checks;

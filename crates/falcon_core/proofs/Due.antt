@@ -69,7 +69,7 @@ pub due_only_after_tick : (s : Supervisor) (r : Request) → refusal_of s r ≡ 
 unfolding accepted_of
 due_only_after_tick s r e =
     let after : (step_of s r).supervisor.report_due ≡ report_due_after (output_of s.flight (legs_in s) r) = rw (step_accepted s r e) (due_after_lem s r e) in
-    (λ d. due-flying s r (sym after ∙ d), λ k. after ∙ flying_due s r k)
+    (λ d. due_flying s r (sym after ∙ d), λ k. after ∙ flying_due s r k)
 
 -- ---- a due report finds the mode airborne
 

@@ -133,7 +133,7 @@ after_fits s (plans p) l k = planned_fits s.flight s.waypoints p l k
 
 -- one call
 pub fits_step : (s : Supervisor) (r : Request) → Lent r → FitFlight s.flight s.waypoints → FitFlight (step_of s r).supervisor.flight (step_of s r).supervisor.waypoints
-fits_step s r l k = step_keeps s r (λ (u : Supervisor). FitFlight u.flight u.waypoints) k (λ e. after-fits s r l k)
+fits_step s r l k = step_keeps s r (λ (u : Supervisor). FitFlight u.flight u.waypoints) k (λ e. after_fits s r l k)
 
 pub fits_unopened : FitFlight unopened.flight unopened.waypoints
 unfolding unopened

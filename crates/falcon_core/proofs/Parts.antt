@@ -77,7 +77,7 @@ after_config s (plans p) h = planned_config s.flight p
 
 -- a configuration changes only by an opening
 pub config_kept : (s : Supervisor) (r : Request) → is_opening r ≡ false → (step_of s r).supervisor.flight.config ≡ s.flight.config
-config_kept s r h = step_keeps s r (λ (u : Supervisor). u.flight.config ≡ s.flight.config) refl (λ e. after-config s r h)
+config_kept s r h = step_keeps s r (λ (u : Supervisor). u.flight.config ≡ s.flight.config) refl (λ e. after_config s r h)
 
 -- an accepted list of points replaces the mission and nothing else of the flight
 pub points_flight : (s : Supervisor) (l : List Float) → refusal_of s (plans (points l)) ≡ 0 → (step_of s (plans (points l))).supervisor.flight ≡ with_mission s.flight (loaded_of l)

@@ -88,7 +88,7 @@ told_passed s _ _ tells_state k = k.in_sequence
 -- a call for the totals or for the state keeps the whole state, accepted or refused
 pub told_keeps : (s : Supervisor) (p : Planning) (out : Output) → Telling p out → (step_of s (plans p)).supervisor ≡ s
 told_keeps s p out t =
-    step_keeps s (plans p) (λ (u : Supervisor). u ≡ s) refl (λ e. told-after s p out t (told_passed s p out t (accepted_passed s (plans p) e)))
+    step_keeps s (plans p) (λ (u : Supervisor). u ≡ s) refl (λ e. told_after s p out t (told_passed s p out t (accepted_passed s (plans p) e)))
 
 -- ---- the table's rows 1, 6 and 7, of a call that is no opening
 

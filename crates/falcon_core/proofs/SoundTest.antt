@@ -212,7 +212,7 @@ test_sound s f t =
       mission = record {
         places =
             unused_back _ zero_point nowhere origin max_waypoints ps m.wp_count
-            (λ i. origin-back _ (f.waypoints i))
+            (λ i. origin_back _ (f.waypoints i))
             (leb→le _ _ (and_l few few-zones (test 1)))
             (below_each (λ i. waypoint_admissible_of s.flight.config (get_or ps i nowhere)) m.wp_count (test 2))
             (and_l unused unused-zones (test 6));
@@ -220,7 +220,7 @@ test_sound s f t =
       };
       zones =
           unused_back _ zero_zone no_place no_zone max_keepout_zones zs.zones zs.zone_count
-          (λ i. no-zone-back _ (f.zones i))
+          (λ i. no_zone_back _ (f.zones i))
           (leb→le _ _ (and_r few few-zones (test 1)))
           (λ i p. tt)
           (and_r unused unused-zones (test 6));

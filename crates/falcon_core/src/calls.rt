@@ -17,7 +17,7 @@ use relay_math::{flag_number, to_bits};
 use relay_preflight::{CheckTable, TableVerdict, arm_check_table};
 
 // What an answer tells beside the mode and the checks: nothing, what a tick answers, or of the state after the call its totals or the whole.
-#[derive(Drop)]
+#[derive(Clone, Copy)]
 pub enum Output {
     Nothing,
     Ticks(TickAnswer),
@@ -26,7 +26,7 @@ pub enum Output {
 }
 
 // The answer to a call.
-#[derive(Drop)]
+#[derive(Clone, Copy)]
 pub struct Answer {
     pub refusal: u32,
     pub mode: Mode,
@@ -36,14 +36,14 @@ pub struct Answer {
 }
 
 // The state after a call, and the answer.
-#[derive(Drop)]
+#[derive(Clone, Copy)]
 pub struct Answered {
     pub supervisor: Supervisor,
     pub answer: Answer,
 }
 
 // What a tick, a report or a command leaves: the flight, whether a report is due, and the answer.
-#[derive(Drop)]
+#[derive(Clone, Copy)]
 pub struct FlightAnswered {
     pub flight: FlightSupervisor,
     pub report_due: bool,

@@ -8,7 +8,7 @@ use falcon_guidance::state::Point;
 use falcon_totals::DayTotals;
 
 // The supervisor: the flight, the waypoints, whether there was an opening, whether a report is due, and the day totals. Unused places hold the origin.
-#[derive(Drop)]
+#[derive(Clone, Copy)]
 pub struct Supervisor {
     pub flight: FlightSupervisor,
     pub waypoints: [Point; Point::MAX_WAYPOINTS],

@@ -8,14 +8,14 @@ use relay_fsm::{FlightFsm, Mode};
 use relay_preflight::CheckTable;
 
 // Ticks in a row of too much tilt and of high wind.
-#[derive(Drop)]
+#[derive(Clone, Copy)]
 pub struct Counts {
     pub runaway_count: u32,
     pub wind_count: u32,
 }
 
 // What the failsafes change: the mode, the counts and the latch.
-#[derive(Drop)]
+#[derive(Clone, Copy)]
 pub struct FailsafeState {
     pub mode: Mode,
     pub counts: Counts,
@@ -23,7 +23,7 @@ pub struct FailsafeState {
 }
 
 // The flight: all that a tick reads and changes.
-#[derive(Drop)]
+#[derive(Clone, Copy)]
 pub struct FlightSupervisor {
     pub config: Config,
     pub fsm: FlightFsm,
@@ -38,7 +38,7 @@ pub struct FlightSupervisor {
 }
 
 // What an opening gives.
-#[derive(Drop)]
+#[derive(Clone, Copy)]
 pub struct Opening {
     pub home: Point,
     pub fence_radius: f32,

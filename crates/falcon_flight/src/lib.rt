@@ -1,4 +1,6 @@
 // One tick of the flight: milestones, setpoint, and the paragraphs in their order.
+#![tactic(auto)]
+
 pub mod milestone;
 pub mod setpoint;
 pub mod tick;

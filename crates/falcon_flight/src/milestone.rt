@@ -9,7 +9,7 @@ use relay_fsm::{Event, Mode};
 use relay_math::sqrtf;
 
 // What the milestone changes: the mode and the active leg.
-#[derive(Drop)]
+#[derive(Clone, Copy)]
 pub(crate) struct Reached {
     pub mode: Mode,
     pub wp_index: u32,

@@ -13,7 +13,7 @@ use falcon_hold::hold::held;
 use relay_fsm::{FlightFsm, Mode};
 
 // What a tick answers.
-#[derive(Drop)]
+#[derive(Clone, Copy)]
 pub enum TickAnswer {
     MotorsOff,
     // Where to fly, whether the descent is on, and whether the motors start with this tick.
@@ -25,7 +25,7 @@ pub enum TickAnswer {
 }
 
 // The flight after a tick, and the tick's answer.
-#[derive(Drop)]
+#[derive(Clone, Copy)]
 pub struct Ticked {
     pub flight: FlightSupervisor,
     pub answer: TickAnswer,

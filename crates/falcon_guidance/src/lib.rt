@@ -1,4 +1,6 @@
 // Where to fly: waypoints and keep-out zones.
+#![tactic(auto)]
+
 pub mod geometry;
 pub mod legs;
 pub mod mission;

@@ -5,7 +5,7 @@ ghost use Rattle.falcon_guidance.specs.State.{point_of, origin, zone_of, no_zone
 use relay_batt::Reading;
 
 // A position or velocity: north, east, down, in metres or metres a second.
-#[derive(Drop)]
+#[derive(Clone, Copy)]
 pub struct Point {
     pub x: f32,
     pub y: f32,
@@ -43,7 +43,7 @@ impl Point {
 }
 
 // A circular keep-out zone: its centre and radius, judged horizontally.
-#[derive(Drop)]
+#[derive(Clone, Copy)]
 pub struct Zone {
     pub center: Point,
     pub radius: f32,
@@ -86,14 +86,14 @@ impl Zone {
 }
 
 // A horizontal position or direction: north, east.
-#[derive(Drop)]
+#[derive(Clone, Copy)]
 pub struct Horizontal {
     pub x: f32,
     pub y: f32,
 }
 
 // What one tick brings: the estimate, the core's figures and flags, and the battery reading.
-#[derive(Drop)]
+#[derive(Clone, Copy)]
 pub struct Tick {
     pub dt: f32,
     pub p: Point,
@@ -138,7 +138,7 @@ impl Tick {
 }
 
 // Where the supervisor was opened.
-#[derive(Drop)]
+#[derive(Clone, Copy)]
 pub struct Config {
     pub home: Point,
     pub fence_radius: f32,
@@ -148,28 +148,28 @@ pub struct Config {
 }
 
 // How many waypoints are in use, and the active leg.
-#[derive(Drop)]
+#[derive(Clone, Copy)]
 pub struct Mission {
     pub wp_count: u32,
     pub wp_index: u32,
 }
 
 // The waypoint of the active leg, and that of the next one.
-#[derive(Drop)]
+#[derive(Clone, Copy)]
 pub struct Legs {
     pub here: Point,
     pub next: Point,
 }
 
 // The keep-out zones and how many are in use. Unused places hold no zone.
-#[derive(Drop)]
+#[derive(Clone, Copy)]
 pub struct Zones {
     pub zones: [Zone; Zone::MAX_KEEPOUT_ZONES],
     pub zone_count: u32,
 }
 
 // The hold point of Takeoff and Loiter, and the braking before it is latched.
-#[derive(Drop)]
+#[derive(Clone, Copy)]
 pub struct Hold {
     pub hold_xy: Horizontal,
     // The latest tick's setpoint was that of Takeoff or Loiter.

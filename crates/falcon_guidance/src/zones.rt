@@ -9,7 +9,7 @@ use crate::state::{Horizontal, Point, Zone, Zones};
 use relay_math::{clamp, max, sqrtf};
 
 // The unit vector from the vehicle toward the goal, and the distance to it.
-#[derive(Drop)]
+#[derive(Clone, Copy)]
 pub struct Goal {
     pub ux: f32,
     pub uy: f32,
@@ -17,7 +17,7 @@ pub struct Goal {
 }
 
 // From a zone to the vehicle: the vector, the distance and the safe ring.
-#[derive(Drop)]
+#[derive(Clone, Copy)]
 pub struct Bearing {
     pub rx: f32,
     pub ry: f32,

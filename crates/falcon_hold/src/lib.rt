@@ -1,2 +1,4 @@
 // The hold point of Takeoff and Loiter.
+#![tactic(auto)]
+
 pub mod hold;

@@ -97,7 +97,7 @@ module _ (form : Form) (s : Supervisor) where
       × (s.flight.mission.wp_count ≤ i → number_at (columns_in form s) n ≡ number_at (point_columns origin) k)
   unfolding columns_in points_columns
   point_at =
-      place_at nowhere origin s.waypoints s.flight.mission.wp_count form.places point_numbers_of (λ b. point_columns) (λ b. length-point)
+      place_at nowhere origin s.waypoints s.flight.mission.wp_count form.places point_numbers_of (λ b. point_columns) (λ b. length_point)
       (scalar_columns s) (zones_columns form s.flight.zones ++ later_columns form) points_at (length_scalars s)
 
   -- "Places beyond the point or zone count are written 0": the points
@@ -144,7 +144,7 @@ module _ (form : Form) (s : Supervisor) where
       let zs = s.flight.zones in
       let cols : Bool → Zone → List ℕ = λ b. zone_columns form.has_tops (cond b no_top 0) in
       rw zones_apart
-      (place_at no_place no_zone zs.zones zs.zone_count max_keepout_zones (zone_width form) cols (λ b. length-zone form (cond b no_top 0))
+      (place_at no_place no_zone zs.zones zs.zone_count max_keepout_zones (zone_width form) cols (λ b. length_zone form (cond b no_top 0))
       (scalar_columns s ++ points_columns form s) (later_columns form) (zones_at form) (length_before form s) n i k e p q)
 
   -- and the zones

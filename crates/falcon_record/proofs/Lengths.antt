@@ -36,11 +36,11 @@ length_zone form top z = length_topped form.has_tops top z
 
 pub length_points : (form : Form) (s : Supervisor) → length (points_columns form s) ≡ point_numbers_of * form.places
 unfolding points_columns
-length_points form s = length_placed _ point_numbers_of (λ i. length-point _) form.places
+length_points form s = length_placed _ point_numbers_of (λ i. length_point _) form.places
 
 pub length_zones : (form : Form) (zs : Zones) → length (zones_columns form zs) ≡ zone_width form * max_keepout_zones
 unfolding zones_columns
-length_zones form zs = length_placed _ (zone_width form) (λ i. length-zone form _ _) max_keepout_zones
+length_zones form zs = length_placed _ (zone_width form) (λ i. length_zone form _ _) max_keepout_zones
 
 length_cond : (b : Bool) (l : List ℕ) → length (cond b l []) ≡ cond b (length l) 0
 length_cond true l = refl

@@ -120,7 +120,7 @@ point_in_lem p k = search bits_in depth 16
 points_in : (form : Form) (s : Supervisor) → FitFlight s.flight s.waypoints → InRange (points_columns form s)
 unfolding points_columns
 points_in form s k =
-    in_placed _ form.places (λ i. point-in _ (place_holds FitPoint nowhere origin s.waypoints s.flight.mission.wp_count i k.waypoints origin_fits))
+    in_placed _ form.places (λ i. point_in_lem _ (place_holds FitPoint nowhere origin s.waypoints s.flight.mission.wp_count i k.waypoints origin_fits))
 
 zone_in_lem : (tops : Bool) (top : ℕ) (z : Zone) → top < 2 ^ 32 → FitZone z → InRange (zone_columns tops top z)
 unfolding zone_columns
@@ -132,7 +132,7 @@ zones_in form f ps k =
     let count = f.zones.zone_count in
     in_placed _ max_keepout_zones
     (λ i.
-    zone-in form.has_tops _ _ (cond_keeps (λ (n : ℕ). n < 2 ^ 32) (ltb i count) no_top 0 (lit< tt) (lit< tt))
+    zone_in_lem form.has_tops _ _ (cond_keeps (λ (n : ℕ). n < 2 ^ 32) (ltb i count) no_top 0 (lit< tt) (lit< tt))
     (place_holds FitZone no_place no_zone f.zones.zones count i k.zones no_zone_fits))
 
 later_in : (form : Form) → InRange (later_columns form)

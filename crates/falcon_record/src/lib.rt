@@ -1,4 +1,6 @@
 // The record: the state of a supervisor as the columns of a line of kind 9, which docs/RECORD.md lists.
+#![tactic(auto)]
+
 ghost use Rattle.std.specs.Prelude.{◌≡◌, false, [], ◌∷◌, ◌++◌, ◌<◌};
 ghost use Rattle.relay_batt.specs.Numbers.{battery_numbers_of};
 ghost use Rattle.falcon_guidance.specs.State.{origin, no_zone, nowhere, max_waypoints, max_keepout_zones};

@@ -1,4 +1,6 @@
 // The day totals: how many ticks ended in each mode, and how many calls ended in another mode than they began in.
+#![tactic(auto)]
+
 ghost use Rattle.std.specs.Prelude.{◌≡◌, not};
 ghost use Rattle.relay_fsm.specs.Mode.{is_mode};
 ghost use Rattle.falcon_totals.specs.Totals.{no_totals, one_more_of, counted_of, totals_numbers};
@@ -7,7 +9,7 @@ use relay_fsm::Mode;
 use relay_math::saturating_add;
 
 // Since the opening: the ticks that ended in each mode, and the ticks, reports and commands that ended in another mode than they began in.
-#[derive(Drop)]
+#[derive(Clone, Copy)]
 pub struct DayTotals {
     pub disarmed: u32,
     pub armed: u32,

@@ -94,7 +94,7 @@ good_from a (b ∷ l) = all (tests a b) && good_from b l
 walk_within : (a : Knot) (l : List Knot) → T (good_from a l) → {v : Float} → NonNeg v → T (finite v) → T (le a.v v) → Within curve.zero one (walk v a l)
 unfolding walk
 walk_within a [] t p f h = one_within
-walk_within a (b ∷ l) t {v} p f h = go (le v b.v) refl (λ (k : T (le b.v v)). walk-within b l (and_r (all (tests a b)) (good_from b l) t) p f k)
+walk_within a (b ∷ l) t {v} p f h = go (le v b.v) refl (λ (k : T (le b.v v)). walk_within b l (and_r (all (tests a b)) (good_from b l) t) p f k)
   where
     good : T (all (tests a b))
     good = and_l (all (tests a b)) (good_from b l) t

@@ -130,7 +130,7 @@ amps_sound e dt v i s d p q = record {
   shown = record {
     charge = soc_within e.cfg _ _;
     used_shown = consumed_within e dt i;
-    resistance_shown = λ h. r-est-within e v i s.resistance;
+    resistance_shown = λ h. r_est_within e v i s.resistance;
     nothing_shown_lem = λ h. absurd (true≢false h);
   };
   low_shown = refl;

@@ -127,8 +127,8 @@ state_back cfg seen s f t =
     record {
       charge = within_back curve.zero curve.one s.soc (test 0);
       used_shown = within_back curve.zero (capacity_of cfg) s.consumed_mah (test 1);
-      resistance_shown = λ h. within-back r_min r_max s.r_est (subst (λ (x : Bool). T (cond x (within r_min r_max s.r_est) (nothing_shown s))) h (test 2));
-      nothing_shown_lem = λ h. none-back s f (subst (λ (x : Bool). T (cond x (within r_min r_max s.r_est) (nothing_shown s))) h (test 2));
+      resistance_shown = λ h. within_back r_min r_max s.r_est (subst (λ (x : Bool). T (cond x (within r_min r_max s.r_est) (nothing_shown s))) h (test 2));
+      nothing_shown_lem = λ h. none_back s f (subst (λ (x : Bool). T (cond x (within r_min r_max s.r_est) (nothing_shown s))) h (test 2));
     }
 
 pub test_sound : (b : Battery) → FitBattery b → sound_of b ≡ true → Sound b

@@ -7,7 +7,7 @@ use crate::config::BattConfig;
 use crate::estimator::{BattState, BatteryEstimator, Updated};
 
 // What the monitor read: nothing, volts, or volts with amps.
-#[derive(Drop)]
+#[derive(Clone, Copy)]
 pub enum Reading {
     Nothing,
     Volts(f32),
@@ -15,7 +15,7 @@ pub enum Reading {
 }
 
 // `missing_s` is the silence, `present` whether the last tick had a reading, `seen` whether any had.
-#[derive(Drop)]
+#[derive(Clone, Copy)]
 pub struct Battery {
     pub est: BatteryEstimator,
     pub state: BattState,

@@ -6,7 +6,7 @@ ghost use Rattle.relay_batt.specs.Config.{default_of, for_pack_of, for_opening_v
 use crate::curve::sanitize;
 
 // Capacity in mAh, cells in series, ohms of the whole pack; thresholds of charge, of volts a cell, and of seconds.
-#[derive(Drop)]
+#[derive(Clone, Copy)]
 pub struct BattConfig {
     pub capacity_mah: f32,
     pub cells: u32,

@@ -16,7 +16,7 @@ pub fn sanitize(x: f32, lo: f32, hi: f32, nan_default: f32) -> f32
 }
 
 // A pair of the curve: volts of a cell and its charge.
-#[derive(Drop)]
+#[derive(Clone, Copy)]
 pub struct Knot {
     pub v: f32,
     pub s: f32,

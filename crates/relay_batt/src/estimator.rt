@@ -8,7 +8,7 @@ use crate::curve::{ocv_soc_cell, sanitize};
 use crate::latch::TripLatch;
 
 // The estimated state of the battery, as it is shown.
-#[derive(Drop)]
+#[derive(Clone, Copy)]
 pub struct BattState {
     pub volts: f32,
     pub rest_volts: f32,
@@ -41,7 +41,7 @@ impl BattState {
 }
 
 // A pack's configuration, and what one reading leaves for the next.
-#[derive(Drop)]
+#[derive(Clone, Copy)]
 pub struct BatteryEstimator {
     pub cfg: BattConfig,
     pub consumed_mah: f32,
@@ -54,7 +54,7 @@ pub struct BatteryEstimator {
 }
 
 // The estimator after a reading, and the state to be shown.
-#[derive(Drop)]
+#[derive(Clone, Copy)]
 pub struct Updated {
     pub est: BatteryEstimator,
     pub state: BattState,

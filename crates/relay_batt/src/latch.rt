@@ -4,7 +4,7 @@ ghost use Rattle.std.specs.Prelude.{◌≡◌};
 ghost use Rattle.relay_batt.specs.Latch.{new_latch_of, trip_of};
 
 // Seconds below the threshold, and whether it has tripped.
-#[derive(Drop)]
+#[derive(Clone, Copy)]
 pub struct TripLatch {
     pub below_s: f32,
     pub latched: bool,

@@ -1,4 +1,5 @@
 // The battery: what a reading says of the pack, and the two latches that the failsafe acts on.
+#![tactic(auto)]
 
 pub mod battery;
 pub mod config;

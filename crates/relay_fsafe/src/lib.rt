@@ -1,9 +1,11 @@
 // The failsafe arbiter: resolves the raised triggers to the gravest of their actions, and latches it.
+#![tactic(auto)]
+
 ghost use Rattle.std.specs.Prelude.{◌≡◌};
 ghost use Rattle.relay_fsafe.specs.Fsafe.{severity_of, graver_of, bump_of, policy_action_of, evaluate_of};
 
 // What the flight stack does, from the least to the most severe.
-#[derive(Drop)]
+#[derive(Clone, Copy)]
 pub enum FailsafeAction {
     // Fly the commanded mode.
     None,
@@ -53,7 +55,7 @@ impl FailsafeAction {
 }
 
 // The triggers that are raised in this cycle.
-#[derive(Drop)]
+#[derive(Clone, Copy)]
 pub struct Triggers {
     // The pilot's link is lost.
     pub rc_loss: bool,
@@ -89,7 +91,7 @@ impl Triggers {
 }
 
 // Latches the gravest action since the last reset.
-#[derive(Drop)]
+#[derive(Clone, Copy)]
 pub struct FailsafeArbiter {
     pub latched: FailsafeAction,
 }

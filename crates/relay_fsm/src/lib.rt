@@ -1,10 +1,12 @@
 // Flight modes, events, and what each event does in each mode.
+#![tactic(auto)]
+
 ghost use Rattle.std.specs.Prelude.{◌≡◌};
 ghost use Rattle.relay_fsm.specs.Mode.{mode_number, is_mode, is_airborne_of, rank_of};
 ghost use Rattle.relay_fsm.specs.Event.{event_number, event_at};
 ghost use Rattle.relay_fsm.specs.Fsm.{taken_if_of, row_of, applied_of, on_of};
 
-#[derive(Drop)]
+#[derive(Clone, Copy)]
 pub enum Mode {
     // Motors off, on the ground.
     Disarmed,
@@ -136,7 +138,7 @@ impl Mode {
 }
 
 // Commands, and milestones that the supervisor senses.
-#[derive(Drop)]
+#[derive(Clone, Copy)]
 pub enum Event {
     Arm,
     RequestTakeoff,
@@ -153,7 +155,7 @@ pub enum Event {
 }
 
 // The event that a number stands for.
-#[derive(Drop)]
+#[derive(Clone, Copy)]
 pub enum FoundEvent {
     Known(Event),
     Unknown,
@@ -213,7 +215,7 @@ impl Event {
 }
 
 // What the machine checks before a guarded transition.
-#[derive(Drop)]
+#[derive(Clone, Copy)]
 pub struct Gates {
     // The attitude is within the arming limit.
     pub level: bool,
@@ -226,7 +228,7 @@ pub struct Gates {
 }
 
 // What an event does: a row of the match applies and leads to a mode, or none applies.
-#[derive(Drop)]
+#[derive(Clone, Copy)]
 pub enum Transition {
     Taken(Mode),
     Ignored,
@@ -255,7 +257,7 @@ impl Transition {
 }
 
 // The flight-mode state machine.
-#[derive(Drop)]
+#[derive(Clone, Copy)]
 pub struct FlightFsm {
     pub mode: Mode,
 }

@@ -1,4 +1,5 @@
 // Floats: bits in and out for every pattern, and what the Rust takes from its library and Rattle's has not. Flags as numbers.
+#![tactic(auto)]
 
 ghost use Rattle.std.specs.Prelude.{◌≡◌};
 ghost use Rattle.std.specs.Float.{binary32};

@@ -9,21 +9,21 @@ ghost use Rattle.relay_math.specs.RootCode.{SameRoot, Digits24, exact_of, rounde
 ghost use Rattle.relay_math.specs.declared.root.Operand.TheVariants.{AboveZero};
 
 // An operand with a rule of its own and its result, or a finite one above zero.
-#[derive(Drop)]
+#[derive(Clone, Copy)]
 enum Operand {
     Special(f32),
     AboveZero,
 }
 
 // m * 2 ^ c / 4 ^ 173 with 24 digits in m.
-#[derive(Drop)]
+#[derive(Clone, Copy)]
 struct Radicand {
     m: u64,
     c: u64,
 }
 
 // The exact root √n * 2 ^ e / 2 ^ 173: q is the whole root of n and has 24 digits, and n determines the digits that follow. The standard's exponent, that of the leading digit, is e - 150.
-#[derive(Drop)]
+#[derive(Clone, Copy)]
 struct ExactRoot {
     n: u64,
     q: u64,

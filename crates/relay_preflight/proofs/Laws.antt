@@ -146,7 +146,7 @@ none_fails t (x ∷ xs) = (λ e. go (fails_of t x) refl e (none_fails t xs).0, �
 pub allowed_iff : (t : CheckTable) → (first_blocker_of t ≡ Allowed) ↔ ((id : CheckId) → fails_of t id ≡ false)
 unfolding first_blocker_of
 allowed_iff t = (
-  λ e. each-check (λ x. fails_of t x ≡ false) ((none_fails t all_checks).0 e),
+  λ e. each_check (λ x. fails_of t x ≡ false) ((none_fails t all_checks).0 e),
   λ h. (none_fails t all_checks).1 (each_of (λ x. fails_of t x ≡ false) h all_checks),
 )
 
@@ -169,7 +169,7 @@ fails_bit t h id = simp (bit_and_lem, bit_not 32 t.passed (check_number id) h (n
 
 -- where no bit of the failing mask is set arming is allowed
 pub mask_allows : (t : CheckTable) → t.passed < 2 ^ 32 → failing_mask_of t ≡ 0 → first_blocker_of t ≡ Allowed
-mask_allows t h e = (allowed_iff t).1 (λ id. fails-bit t h id ∙ ap (λ (m : ℕ). bit_of m (check_number id)) e ∙ bit_zero (check_number id))
+mask_allows t h e = (allowed_iff t).1 (λ id. fails_bit t h id ∙ ap (λ (m : ℕ). bit_of m (check_number id)) e ∙ bit_zero (check_number id))
 
 abbrev sum_below : (ℕ → ℕ) → ℕ → ℕ
 sum_below g zero = 0
@@ -218,7 +218,7 @@ pub outstanding_zero : (t : CheckTable) → t.required < mask_limit → t.passed
 unfolding first_blocker_of
 outstanding_zero t h l = (
   λ e. (none_fails t all_checks).1 ((count_zero (fails_of t) all_checks).0 (sym (outstanding_count t h l) ∙ e)),
-  λ e. outstanding-count t h l ∙ (count_zero (fails_of t) all_checks).1 ((none_fails t all_checks).0 e),
+  λ e. outstanding_count t h l ∙ (count_zero (fails_of t) all_checks).1 ((none_fails t all_checks).0 e),
 )
 
 -- at most every check is outstanding

@@ -1,4 +1,6 @@
 // The pre-arm check table: which checks the vehicle requires, which have passed, and the first that blocks arming.
+#![tactic(auto)]
+
 ghost use Rattle.std.specs.Prelude.{◌≡◌};
 ghost use Rattle.relay_preflight.specs.Check.{check_number};
 ghost use Rattle.relay_preflight.specs.Table.{bit_of, with_bit_of, new_of, set_of, legacy_passed_of, is_required_of, passed_of};
@@ -6,7 +8,7 @@ ghost use Rattle.relay_preflight.specs.Table.{failing_mask_of, outstanding_of};
 ghost use Rattle.relay_preflight.specs.Verdict.{first_blocker_of, blocker_number};
 
 // The individual pre-arm checks.
-#[derive(Drop)]
+#[derive(Clone, Copy)]
 pub enum CheckId {
     SensorsHealthy,
     EstimatorConverged,
@@ -112,7 +114,7 @@ fn with_bit(mask: u32, id: CheckId, on: bool) -> u32
 }
 
 // The check table: bit n of each mask is the check of number n.
-#[derive(Drop)]
+#[derive(Clone, Copy)]
 pub struct CheckTable {
     pub required: u32,
     pub passed: u32,
@@ -181,7 +183,7 @@ impl CheckTable {
 }
 
 // What the table says of arming.
-#[derive(Drop)]
+#[derive(Clone, Copy)]
 pub enum TableVerdict {
     Allowed,
     // The first failing required check, in the order of CheckId::ALL.

@@ -117,8 +117,8 @@ unfolding output_of extra_of totals_numbers
 numbers_fit ns =
     let need = need_fields_of (Number (number_at ns 0)) in
     let least = need_least (Number (number_at ns 0)) in
-    request_keeps (Fits need) (λ n. refused-fit need n least) ns (ten_fit need _ least (λ s. refl)) (ten_fit need _ least (λ s. refl)) (ten_fit need _ least (λ s. refl))
-    (λ ev. ten-fit need _ least (λ s. refl))
+    request_keeps (Fits need) (λ n. refused_fit need n least) ns (ten_fit need _ least (λ s. refl)) (ten_fit need _ least (λ s. refl)) (ten_fit need _ least (λ s. refl))
+    (λ ev. ten_fit need _ least (λ s. refl))
     (ten_fit need _ least (λ s. refl))
     (ten_fit need _ least (λ s. refl))
     (λ e s. omega (arith, need_seven (number_at ns 0) e, step_extra s (plans totals) totals_count (refusal_of s (plans totals)) refl refl))

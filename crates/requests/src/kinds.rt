@@ -14,14 +14,14 @@ use relay_fsm::{Event, FoundEvent};
 use relay_math::from_bits;
 
 // What a line asks, by its kind.
-#[derive(Drop)]
+#[derive(Clone, Copy)]
 pub enum Kind {
     Flight(FlightCall),
     Other(OtherCall),
 }
 
 // A tick, a report or a command: what changes the flight and leaves the waypoints.
-#[derive(Drop)]
+#[derive(Clone, Copy)]
 pub enum FlightCall {
     Ticks(Tick),
     Reports(bool),
@@ -33,7 +33,7 @@ pub enum FlightCall {
 }
 
 // What any other line asks, or the refusal that fits it whatever the state. The points or zones of a line stand in its numbers.
-#[derive(Drop)]
+#[derive(Clone, Copy)]
 pub enum OtherCall {
     Refused(u32),
     Opens(Opening),

@@ -1,4 +1,6 @@
 // From a line's numbers to a call.
+#![tactic(auto)]
+
 pub mod kinds;
 pub mod need;
 pub mod parse;

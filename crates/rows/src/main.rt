@@ -1,4 +1,5 @@
 // Answers document 01's examples, the harness's cases and a sample of generated sheets, which standard input has one after the other.
+#![tactic(auto)]
 
 ghost use Rattle.std.specs.Prelude.{◌≡◌, true, length};
 ghost use Rattle.falcon_core.specs.Supervisor.{unopened};

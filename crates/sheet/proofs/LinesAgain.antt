@@ -63,7 +63,7 @@ pub bare_none : (s : List ℕ) → whole s ≡ [] → Memᴰ newline s → ⊥
 bare_none [] h m = Memᴰ.not-nil m
 bare_none (b ∷ s) h m =
     let r : Bare b s = bare_is b s h in
-    ⊎_elim (λ e. r.first (sym e)) (λ k. bare-none s r.others k) (Memᴰ.cases_cons m)
+    ⊎_elim (λ e. r.first (sym e)) (λ k. bare_none s r.others k) (Memᴰ.cases_cons m)
 
 -- bytes without a newline and then one are a line
 pub whole_line : (l t : List ℕ) → whole l ≡ [] → whole (l ++ (newline ∷ t)) ≡ l ∷ whole t
@@ -209,7 +209,7 @@ bare_both (l ∷ ls) ms h k = (h.0, bare_both ls ms h.1 k)
 
 all_none : (ls : List (List ℕ)) (l : List ℕ) → AllBare ls → Memᴰ l ls → Memᴰ newline l → ⊥
 all_none [] l h m n = Memᴰ.not-nil m
-all_none (k ∷ ls) l h m n = ⊎_elim (λ e. bare-none l (ap whole e ∙ h.0) n) (λ i. all_none ls l h.1 i n) (Memᴰ.cases_cons m)
+all_none (k ∷ ls) l h m n = ⊎_elim (λ e. bare_none l (ap whole e ∙ h.0) n) (λ i. all_none ls l h.1 i n) (Memᴰ.cases_cons m)
 
 -- no line holds a newline
 pub lines_bare : (s l : List ℕ) → Memᴰ l (lines_of s) → Memᴰ newline l → ⊥

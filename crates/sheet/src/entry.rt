@@ -27,21 +27,21 @@ use requests::need::is_short;
 use requests::parse::{NUMBER_PLACES, asked};
 
 // The state after a line, and the refusal that its answer gives.
-#[derive(Drop)]
+#[derive(Clone, Copy)]
 pub struct LineAnswered {
     pub supervisor: Supervisor,
     pub refusal: u32,
 }
 
 // The state after a line, and how many numbers its answer has.
-#[derive(Drop)]
+#[derive(Clone, Copy)]
 pub(crate) struct LineReplied {
     pub supervisor: Supervisor,
     pub count: usize,
 }
 
 // What a tick, a report or a command leaves of the state, but for the waypoints; its answer has ten numbers.
-#[derive(Drop)]
+#[derive(Clone, Copy)]
 pub(crate) struct FlightReplied {
     pub flight: FlightSupervisor,
     pub report_due: bool,

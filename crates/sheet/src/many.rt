@@ -18,7 +18,7 @@ use requests::need::lacks_room;
 use requests::parse::{NUMBER_PLACES, asked};
 
 // What was answered: the state after it, the bytes read and written, and the lines.
-#[derive(Drop)]
+#[derive(Clone, Copy)]
 pub struct Progress {
     pub supervisor: Supervisor,
     pub used: usize,

@@ -1,4 +1,6 @@
 // The tick with no text: a day flown again and again, and the sum of its answers. `harness/bench tick` times it beside the Rust's `step`.
+#![tactic(auto)]
+
 use falcon_core::supervisor::Supervisor;
 use falcon_failsafe::flight::Opening;
 use falcon_flight::tick::{TickAnswer, tick};
@@ -75,7 +77,7 @@ fn tick_at(i: u32) -> Tick {
 }
 
 // The flight and the sum after some ticks.
-#[derive(Drop)]
+#[derive(Clone, Copy)]
 struct Flown {
     supervisor: Supervisor,
     sum: u64,
