@@ -1,0 +1,20 @@
+use borrow.Author.Tests.{lt-ltb}
+use Rattle.exports.proofs.Stored.{room, put_stored}
+use mathlib.Core.Path.{ap, ◌∙◌}
+use Rattle.relay_batt.specs.Battery.{opened_of}
+use Rattle.exports.specs.Batt.{short_number, stored_of, new_from}
+use borrow.Author.Rules.{rules}
+use Rattle.exports.proofs.batt.bartsemmo_battery_new.Goals as goal
+
+-- CLAUSES answer stored
+pub returns-then-numbers-lt-SIZE : goal.returns-then-numbers-lt-SIZE
+unfolding short_number stored_of
+returns-then-numbers-lt-SIZE c = (simp (lt-ltb _ _ c.if-numbers-lt-SIZE.true), simp (lt-ltb _ _ c.if-numbers-lt-SIZE.true))
+
+-- CLAUSES answer stored
+pub returns : goal.returns
+unfolding new_from
+returns c = let l = c.before.before.before.before.before.before.before.before.before.args.numbers.now in (
+      room l c.if1.false,
+      put_stored l (new_from c.before.before.before.before.before.before.before.before.before.args.numbers.now) c.if1.false c.put_battery.ensures (c.new-battery.ensures ∙ ap opened_of c.config_from.ensures),
+    )

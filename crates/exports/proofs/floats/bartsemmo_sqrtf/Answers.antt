@@ -1,0 +1,6 @@
+-- `bartsemmo_sqrtf`: what its three calls ensure, one after the other.
+use borrow.Author.Rules.{rules}
+use Rattle.exports.proofs.floats.bartsemmo_sqrtf.Goals as goal
+
+pub returns : goal.returns
+returns c = cc

@@ -1,0 +1,5 @@
+use borrow.Author.Rules.{rules}
+use Rattle.exports.proofs.numbers.is_one.Goals as goal
+
+pub returns : goal.returns
+returns c = simp c.number.ensures

@@ -1,0 +1,15 @@
+-- `put`: what is passed of `part` is stored.
+use borrow.Author.Rules.{rules}
+use mathlib.Core.Path.{◌≡◌, refl, ap}
+use Prim.Native.Nat.{◌-◌, ◌≤◌}
+use native.Mathlib.Omega.{arith}
+use lib.ListN.{length, take}
+use lib.Seq.{sets, length-sets}
+use Rattle.exports.proofs.Sets.{put_next, put_all}
+use Rattle.exports.proofs.numbers.put.Given as goal
+
+abbrev pub invariant-loop-i : goal.invariant-loop-i
+invariant-loop-i l = (l.i ≤ length l.part) × (l.out ≡ sets l.fn.out l.at (take l.i l.part))
+
+abbrev pub decreases-loop-i : goal.decreases-loop-i
+decreases-loop-i l = length l.part - l.i

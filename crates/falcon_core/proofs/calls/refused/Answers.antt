@@ -1,0 +1,7 @@
+use Rattle.falcon_core.specs.Calls.{refused_of}
+use borrow.Author.Rules.{rules}
+use Rattle.falcon_core.proofs.calls.refused.Goals as goal
+
+pub returns : goal.returns
+unfolding refused_of
+returns c = simp c.answer_of-a.ensures

@@ -1,0 +1,5 @@
+use borrow.Author.Rules.{rules}
+use Rattle.falcon_failsafe.proofs.failsafe.breach.Goals as goal
+
+pub returns : goal.returns
+returns c = simp c.lost.ensures

@@ -1,0 +1,5 @@
+use borrow.Author.Rules.{rules}
+use Rattle.falcon_failsafe.proofs.failsafe.cleared.Goals as goal
+
+pub returns : goal.returns
+returns c = simp c.is.ensures

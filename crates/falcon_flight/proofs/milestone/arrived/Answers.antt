@@ -1,0 +1,5 @@
+use borrow.Author.Rules.{rules}
+use Rattle.falcon_flight.proofs.milestone.arrived.Goals as goal
+
+pub returns : goal.returns
+returns c = simp c.distance3.ensures

@@ -1,0 +1,7 @@
+use Rattle.falcon_guidance.specs.Geometry.{distance_of}
+use borrow.Author.Rules.{rules}
+use Rattle.falcon_guidance.proofs.geometry.distance.Goals as goal
+
+pub returns : goal.returns
+unfolding distance_of
+returns c = simp c.length.ensures

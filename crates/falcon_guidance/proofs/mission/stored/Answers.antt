@@ -1,0 +1,19 @@
+-- After i turns the first i points are stored.
+use borrow.Author.Rules.{rules}
+use native.Mathlib.Omega.{arith}
+use native.Mathlib.Numerals.{add-one}
+use mathlib.Core.Path.{◌≡◌}
+use Prim.Native.Nat.{◌≤◌, ◌-◌}
+use Rattle.falcon_guidance.specs.Mission.{stored_of}
+use Rattle.falcon_guidance.proofs.mission.stored.Goals as goal
+
+pub loop-i-init : goal.loop-i-init
+unfolding stored_of
+loop-i-init c = (search rules, simp c.origin-point.ensures)
+
+pub loop-i-preserved : goal.loop-i-preserved
+unfolding stored_of
+loop-i-preserved c = (search rules, simp (add-one, c.loop-i.invariant.1, c.point_at.ensures))
+
+pub returns : goal.returns
+returns c = let e : c.loop-i.i ≡ c.args.n = omega arith in simp (c.loop-i.invariant.1, e)

@@ -1,0 +1,7 @@
+use Rattle.falcon_guidance.specs.Zones.{goal_of}
+use borrow.Author.Rules.{rules}
+use Rattle.falcon_guidance.proofs.zones.goal_from.Goals as goal
+
+pub returns : goal.returns
+unfolding goal_of
+returns c = simp (c.max-glen.ensures, c.length.ensures)

@@ -1,0 +1,7 @@
+use Rattle.falcon_guidance.specs.Zones.{obstructs_of}
+use borrow.Author.Rules.{rules}
+use Rattle.falcon_guidance.proofs.zones.obstructs.Goals as goal
+
+pub returns : goal.returns
+unfolding obstructs_of
+returns c = simp (c.perp.ensures, c.along-a.ensures)

@@ -1,0 +1,7 @@
+use Rattle.falcon_guidance.specs.Zones.{threatens_of}
+use borrow.Author.Rules.{rules}
+use Rattle.falcon_guidance.proofs.zones.threatens.Goals as goal
+
+pub returns : goal.returns
+unfolding threatens_of
+returns c = simp c.obstructs.ensures

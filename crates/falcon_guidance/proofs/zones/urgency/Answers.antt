@@ -1,0 +1,7 @@
+use Rattle.falcon_guidance.specs.Zones.{urgency_of}
+use borrow.Author.Rules.{rules}
+use Rattle.falcon_guidance.proofs.zones.urgency.Goals as goal
+
+pub returns : goal.returns
+unfolding urgency_of
+returns c = simp c.clamp.ensures

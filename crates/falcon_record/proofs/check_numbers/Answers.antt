@@ -1,0 +1,7 @@
+use Rattle.falcon_record.specs.Columns.{check_columns}
+use borrow.Author.Rules.{rules}
+use Rattle.falcon_record.proofs.check_numbers.Goals as goal
+
+pub returns : goal.returns
+unfolding check_columns
+returns c = simp c.number.ensures

@@ -1,0 +1,7 @@
+use Rattle.falcon_record.specs.Columns.{point_columns}
+use borrow.Author.Rules.{rules}
+use Rattle.falcon_record.proofs.point_numbers.Goals as goal
+
+pub returns : goal.returns
+unfolding point_columns
+returns c = simp (c.to_bits-3.ensures, c.to_bits-2.ensures, c.to_bits.ensures)

@@ -1,0 +1,31 @@
+use Prim.Native.Nat.{ℕ}
+use mathlib.Core.List.{List}
+use mathlib.Core.Path.{sym, ap, ◌∙◌}
+use Rattle.columns.specs.Line.{put_over}
+use Rattle.falcon_core.specs.declared.calls.Answered.{Answered}
+use Rattle.falcon_record.proofs.Saving.{short_saved, full_saved, saved_accepted, saved_refused}
+use borrow.Author.Rules.{rules}
+use Rattle.falcon_record.proofs.save.Goals as goal
+
+-- CLAUSES answered array
+pub returns-then-numbers-lt-RECORD_ROOM : goal.returns-then-numbers-lt-RECORD_ROOM
+returns-then-numbers-lt-RECORD_ROOM c = let a = c.args in
+    let short = short_saved a.s a.numbers.now c.if-numbers-lt-RECORD_ROOM.true in
+    (c.refused.ensures ∙ short.0, short.1)
+
+-- CLAUSES answered array
+pub returns-then-saved-eq-ACCEPTED : goal.returns-then-saved-eq-ACCEPTED
+returns-then-saved-eq-ACCEPTED c = let a = c.args in
+    let full = c.if-numbers-lt-RECORD_ROOM.false in
+    let saved = c.save-saved.ensures in (
+      saved ∙ full_saved a.s a.numbers.now full,
+      saved_accepted a.s a.numbers.now full _ (ap (λ (x : Answered). x.answer.refusal) (sym saved) ∙ c.if-saved-eq-ACCEPTED.true)
+          (c.put_numbers.ensures ∙ ap (λ (l : List ℕ). put_over 0 l a.numbers.now) c.record_columns.ensures),
+    )
+
+-- CLAUSES answered array
+pub returns-else-saved-eq-ACCEPTED : goal.returns-else-saved-eq-ACCEPTED
+returns-else-saved-eq-ACCEPTED c = let a = c.args in
+    let full = c.if-numbers-lt-RECORD_ROOM.false in
+    let saved = c.save-saved.ensures in
+    (saved ∙ full_saved a.s a.numbers.now full, saved_refused a.s a.numbers.now full (λ e. c.if-saved-eq-ACCEPTED.false (ap (λ (x : Answered). x.answer.refusal) saved ∙ e)))

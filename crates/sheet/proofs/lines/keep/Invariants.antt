@@ -1,0 +1,16 @@
+-- `keep` moves a byte a turn.
+use Prim.Native.Nat.{ℕ, min, ◌+◌, ◌-◌, ◌≤◌}
+use native.Mathlib.Omega.{arith}
+use mathlib.Core.Path.{◌≡◌, refl, ap, ◌∙◌}
+use mathlib.Core.List.{List, ◌++◌}
+use lib.ListN.{length, get_or, set, take, drop, length-set}
+use lib.Seq.{take-length}
+use Rattle.sheet.specs.Lines.{kept_width, kept_of}
+use Rattle.sheet.proofs.LinesTurns.{moved_next, kept_length, kept_same}
+use Rattle.sheet.proofs.lines.keep.Given as goal
+
+abbrev pub invariant-loop-i : goal.invariant-loop-i
+invariant-loop-i l = (l.i ≤ length (kept_of l.fn.buf l.from l.have)) × ((l.buf ≡ take l.i (kept_of l.fn.buf l.from l.have) ++ drop l.i l.fn.buf) × (length l.buf ≡ length l.fn.buf))
+
+abbrev pub decreases-loop-i : goal.decreases-loop-i
+decreases-loop-i l = l.n - l.i
