@@ -10,18 +10,3 @@ invariant-loop-i l = (1 ≤ l.i) × (l.i ≤ 8) × (rest knots l.v l.i ≡ ocv_s
 
 abbrev pub decreases-loop-i : goal.decreases-loop-i
 decreases-loop-i l = 8 - l.i
-module _ (l.i : ℕ) (h : l.i < 8) where
-  scaled : l.i * 8 < 2 ^ 64
-  scaled = omega arith
-  scaled-before : (l.i - 1) * 8 < 2 ^ 64
-  scaled-before = omega arith
-  before-fits : l.i - 1 < 8
-  before-fits = omega arith
-  next_fits : l.i + 1 < 2 ^ 64
-  next_fits = omega arith
-  one_more : 1 ≤ l.i + 1
-  one_more = omega arith
-  next : l.i + 1 ≤ 8
-  next = omega arith
-  less : 8 - (l.i + 1) < 8 - l.i
-  less = omega arith
