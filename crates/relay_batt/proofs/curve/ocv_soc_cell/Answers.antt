@@ -1,5 +1,5 @@
 -- `ocv_soc_cell` is `ocv_soc_cell_of`. The loop's invariant: what is found from the place i on is the answer.
-use Rattle.std.proofs.Common.{◌≡◌, ℕ, ◌+◌, ◌-◌, ◌*◌, ◌^◌, ◌<◌, ◌≤◌, true, false, get_or, sym, ap, ◌∙◌, arith, lit≤, rules}
+use Rattle.std.proofs.Common.{◌≡◌, ℕ, ◌+◌, ◌-◌, ◌*◌, ◌^◌, ◌<◌, ◌≤◌, true, false, get_or, sym, ap, ◌∙◌, arith, lit≤}
 use lib.Ieee.{Float, le}
 use Rattle.relay_batt.specs.Curve.{zero, sanitize_of, knot, knots, table_of, cell_max, ocv_soc_cell_of}
 use Rattle.relay_batt.proofs.Walk.{rest, found, passed, ended}

@@ -1,5 +1,5 @@
 -- `blend` is `blend_of`, by what each call ensures.
-use Rattle.std.proofs.Common.{ap, ◌∙◌, rules}
+use Rattle.std.proofs.Common.{ap, ◌∙◌}
 use lib.Ieee.{Float, binary32, add, sub, mul}
 use Rattle.relay_batt.specs.Curve.{sanitize_of}
 use Rattle.relay_batt.specs.Config.{fallback_resistance}
