@@ -17,7 +17,7 @@ loop-i-init c = (search rules, refl)
 pub returns-then-not-waypoint_admissible : goal.returns-then-not-waypoint_admissible
 returns-then-not-waypoint_admissible c = sym
     (one_bad _ _ c.loop-i.i _ c.loop-i-test.true
-    (simp c.point_at-p.ensures at (sym c.waypoint_admissible.ensures ∙ not-true c.waypoint_admissible.result c.if-not-waypoint_admissible.true-raw)))
+    (simp c.point_at-p.ensures at (sym c.waypoint_admissible.ensures ∙ c.if-not-waypoint_admissible.true)))
 
 pub loop-i-preserved : goal.loop-i-preserved
 unfolding all_admissible_of
@@ -26,7 +26,7 @@ loop-i-preserved c = (
   simp (
     add-one,
     c.loop-i.invariant.1,
-    simp c.point_at-p.ensures at (sym c.waypoint_admissible.ensures ∙ not-false c.waypoint_admissible.result c.if-not-waypoint_admissible.false-raw),
+    simp c.point_at-p.ensures at (sym c.waypoint_admissible.ensures ∙ c.if-not-waypoint_admissible.false),
   ),
 )
 
