@@ -40,7 +40,7 @@ returns c = joined
     c.args.f
     c.args.ev
     c.args.level
-    c.args.throttle-low
+    c.args.throttle_low
     c.arm_check_table.ensures
     c.allowed.ensures
     c.on-after.ensures

@@ -4,14 +4,11 @@ use Rattle.falcon_core.proofs.Answers.{zones_miscounted, zones_unsequenced, zone
 use borrow.Author.Rules.{rules}
 use Rattle.falcon_core.proofs.supervisor.Supervisor.set_keepout_zones.Goals as goal
 
--- CLAUSES answered unchanged
 pub returns-then-lent-ne0 : goal.returns-then-lent-ne0
-returns-then-lent-ne0 c = (c.refused.ensures ∙ zones_miscounted c.args.self c.args.lent.now c.if-lent-ne0.true, refl)
+returns-then-lent-ne0 c = record { answered = c.refused.ensures ∙ zones_miscounted c.args.self c.args.lent.now c.if-lent-ne0.true; unchanged = refl }
 
--- CLAUSES answered unchanged
 pub returns-then-refusal-ne-ACCEPTED : goal.returns-then-refusal-ne-ACCEPTED
-returns-then-refusal-ne-ACCEPTED c = (c.refused-then-refusal-ne-ACCEPTED.ensures ∙ zones_unsequenced c.args.self c.args.lent.now _ c.if-lent-ne0.false c.sequence_refusal-refusal.ensures c.if-refusal-ne-ACCEPTED.true, refl)
+returns-then-refusal-ne-ACCEPTED c = record { answered = c.refused-then-refusal-ne-ACCEPTED.ensures ∙ zones_unsequenced c.args.self c.args.lent.now _ c.if-lent-ne0.false c.sequence_refusal-refusal.ensures c.if-refusal-ne-ACCEPTED.true; unchanged = refl }
 
--- CLAUSES answered unchanged
 pub returns : goal.returns
-returns c = (c.accepted.ensures ∙ zones_accepted c.args.self c.args.lent.now _ c.loaded_zones-loaded.ensures c.if-lent-ne0.false (sym c.sequence_refusal-refusal.ensures ∙ c.if-refusal-ne-ACCEPTED.false), refl)
+returns c = record { answered = c.accepted.ensures ∙ zones_accepted c.args.self c.args.lent.now _ c.loaded_zones-loaded.ensures c.if-lent-ne0.false (sym c.sequence_refusal-refusal.ensures ∙ c.if-refusal-ne-ACCEPTED.false); unchanged = refl }
