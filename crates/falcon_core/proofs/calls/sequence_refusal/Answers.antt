@@ -1,5 +1,4 @@
 use Rattle.falcon_core.specs.Calls.{sequence_refusal_of}
-use borrow.Author.Rules.{rules}
 use Rattle.falcon_core.proofs.calls.sequence_refusal.Goals as goal
 
 pub returns-then-not-opened : goal.returns-then-not-opened
