@@ -1,7 +1,7 @@
 -- The curve is in 0..1 for every float, and 0 up to 3.50 V and for what is not finite.
 -- On a segment it is at most its value at the segment's end, since each operation grows with the volts. What is asked of a segment is a list of tests
 -- that are computed. Assumes nothing.
-use Rattle.std.proofs.Common.{◌≡◌, ℕ, zero, ◌*◌, Bool, true, false, cond, ◌&&◌, ◌||◌, T, List, [], ◌∷◌, refl, zero-le, zero-mul, arith}
+use Rattle.std.proofs.Common.{◌≡◌, ℕ, ◌*◌, Bool, true, false, cond, ◌&&◌, ◌||◌, T, List, [], ◌∷◌, refl, zero-le, zero-mul, arith}
 use denote.Floats.{is_true}
 use lib.Ieee.{Float, nan, inf, fin, binary32, of_bits, up, down, add, sub, mul, div, lt, le, eq}
 use lib.Ieee.Fits.{and_l, and_r}

@@ -1,5 +1,5 @@
 -- The battery's bounds, at every place of every list of turns from an opening. Assumes nothing.
-use Rattle.std.proofs.Common.{◌≡◌, ℕ, zero, suc, ◌*◌, ◌<◌, Bool, true, false, ◌&&◌, T, eqb, List, [], ◌∷◌, sym, refl, ap, ◌∙◌, subst, true≢false, zero-lt-suc, mul-pos, arith, eqb→eq}
+use Rattle.std.proofs.Common.{◌≡◌, ℕ, suc, ◌*◌, ◌<◌, Bool, true, false, ◌&&◌, T, eqb, List, [], ◌∷◌, sym, refl, ap, ◌∙◌, subst, true≢false, zero-lt-suc, mul-pos, arith, eqb→eq}
 use lib.Ieee.{Float, nan, inf, fin, binary32, of_bits, fits, up, down, sub, lt, le}
 use lib.Ieee.Fits.{up_pos, down_pos, and_r, add-fits}
 use lib.Ieee.Scale.{finite}

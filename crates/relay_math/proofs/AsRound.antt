@@ -7,7 +7,7 @@ use native.Mathlib.Omega.{arith}
 use lib.IntN.{pos, negsuc}
 use lib.Dec.{T, ltb, ltb→lt, nltb→le, lt→ltb, lit<}
 use lib.Pow.{pow-add, pow_pos, pow-lt, shr_lt}
-use lib.Ieee.{Float, inf, fin, Format, binary32, binary64, prec, emax, low, up, size, nearest, odd, units, round, mul, lt}
+use lib.Ieee.{Float, inf, fin, Format, binary32, binary64, prec, emax, low, size, nearest, odd, units, round, mul, lt}
 use lib.Ieee.Digits.{size-lt, size-le, size_reaches}
 use lib.Ieee.Exact.{odd_sign}
 use lib.Ieee.Fits.{nearest-le, round_is}

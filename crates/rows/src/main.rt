@@ -11,9 +11,10 @@ use falcon_core::supervisor::Supervisor;
 use falcon_failsafe::flight::Opening;
 use falcon_guidance::state::Point;
 use falcon_record::save;
-use libc::{STDIN_FILENO, STDOUT_FILENO};
 use sheet::entry::answer;
 use sheet::many::answer_sheet;
+use std::io::{Read, Write};
+use std::rt::{Stdin, Stdout};
 
 // The columns of a sheet's name.
 const NAME: usize = 52;
@@ -28,13 +29,23 @@ fn buffer() -> [u8; 131072]
     [0; 131072]
 }
 
+// Prints bytes, as far as they can be written.
+fn print(output: &mut Stdout, bytes: &[u8]) {
+    output.write_all(bytes).is_ok();
+}
+
+// Prints a number and a newline, as far as they can be written.
+fn print_number(output: &mut Stdout, n: u32) {
+    writeln!(output, "{n}").is_ok();
+}
+
 // Answers a sheet, with no opening yet, on standard output. Answers whether the answers to all its lines fit the buffer.
-fn write_answers(sheet: &[u8], out: &mut [u8]) -> bool
+fn write_answers(output: &mut Stdout, sheet: &[u8], out: &mut [u8]) -> bool
     ensures { result ≡ true → fitting unopened (lines_of sheet.now) out.old ≡ lines_of sheet.now }
 {
     let progress = answer_sheet(sheet, out);
     let n = progress.written;
-    io::write_all(STDOUT_FILENO, &out[..n]);
+    print(output, &out[..n]);
     progress.used == sheet.len()
 }
 
@@ -51,49 +62,65 @@ fn length_in(head: &[u8]) -> usize {
 }
 
 // Reads a sheet of n bytes, and writes its answers behind its name. Answers whether the sheet was there and all its answers fit.
-fn replay(head: &[u8], n: usize, sheet: &mut [u8], out: &mut [u8]) -> bool {
+fn replay(
+    input: &mut Stdin,
+    output: &mut Stdout,
+    head: &[u8],
+    n: usize,
+    sheet: &mut [u8],
+    out: &mut [u8],
+) -> bool {
     if sheet.len() < n {
         return false;
     }
-    let got = io::read_full(STDIN_FILENO, &mut sheet[..n]);
-    if got != n {
+    if input.read_exact(&mut sheet[..n]).is_err() {
         return false;
     }
-    io::write_all(STDOUT_FILENO, head);
-    write_answers(&sheet[..n], out)
+    print(output, head);
+    write_answers(output, &sheet[..n], out)
 }
 
 // One sheet. Answers whether there was one and all its answers fit.
-fn replay_next(head: &mut [u8], sheet: &mut [u8], out: &mut [u8]) -> bool {
-    let got = io::read_full(STDIN_FILENO, head);
-    if got != HEAD {
+fn replay_next(
+    input: &mut Stdin,
+    output: &mut Stdout,
+    head: &mut [u8],
+    sheet: &mut [u8],
+    out: &mut [u8],
+) -> bool {
+    if input.read_exact(head).is_err() {
         return false;
     }
     let n = length_in(head);
-    replay(head, n, sheet, out)
+    replay(input, output, head, n, sheet, out)
 }
 
 // Every sheet, up to one whose answers do not fit. A proved loop has to end, so it counts its turns down.
-fn replay_all(head: &mut [u8], sheet: &mut [u8], out: &mut [u8]) {
+fn replay_all(
+    input: &mut Stdin,
+    output: &mut Stdout,
+    head: &mut [u8],
+    sheet: &mut [u8],
+    out: &mut [u8],
+) {
     let mut turns = u64::MAX;
-    while turns > 0 && replay_next(head, sheet, out) {
+    while turns > 0 && replay_next(input, output, head, sheet, out) {
         turns -= 1;
     }
 }
 
 // Answers a line, and prints its refusal and the whole buffer.
-fn print_answer(s: Supervisor, line: &[u8], out: &mut [u8]) {
+fn print_answer(output: &mut Stdout, s: Supervisor, line: &[u8], out: &mut [u8]) {
     let answered = answer(s, line, out);
-    io::print_decimal(STDOUT_FILENO, answered.refusal as u64);
-    io::write_all(STDOUT_FILENO, b"\n");
-    io::write_all(STDOUT_FILENO, out);
-    io::write_all(STDOUT_FILENO, b"\n");
+    print_number(output, answered.refusal);
+    print(output, out);
+    print(output, b"\n");
 }
 
 // Refusal 9's example: a buffer of 109 bytes stays as it was.
-fn short_buffer() {
+fn short_buffer(output: &mut Stdout) {
     let mut out = [b'?'; 109];
-    print_answer(Supervisor::new(), b"12", &mut out);
+    print_answer(output, Supervisor::new(), b"12", &mut out);
 }
 
 // A state with an opening.
@@ -111,56 +138,56 @@ fn opened() -> Supervisor {
 }
 
 // A line of kind 7: a buffer of 208 bytes stays as it was, of 209 a refused answer takes 110, and of 212 an accepted one takes 209.
-fn totals_buffers() {
+fn totals_buffers(output: &mut Stdout) {
     let line = b"          7";
     let mut short = [b'?'; 208];
-    print_answer(Supervisor::new(), line, &mut short);
+    print_answer(output, Supervisor::new(), line, &mut short);
     let mut refused = [b'?'; 209];
-    print_answer(Supervisor::new(), line, &mut refused);
+    print_answer(output, Supervisor::new(), line, &mut refused);
     let mut accepted = [b'?'; 212];
-    print_answer(opened(), line, &mut accepted);
+    print_answer(output, opened(), line, &mut accepted);
 }
 
 // A line of kind 8: buffers of 110 and 1,869 bytes stay as they were, and of 1,870 a refused answer takes 110 and an accepted one 1,595.
-fn record_buffers() {
+fn record_buffers(output: &mut Stdout) {
     let line = b"          8";
     let mut ordinary = [b'?'; 110];
-    print_answer(Supervisor::new(), line, &mut ordinary);
+    print_answer(output, Supervisor::new(), line, &mut ordinary);
     let mut short = [b'?'; 1869];
-    print_answer(Supervisor::new(), line, &mut short);
+    print_answer(output, Supervisor::new(), line, &mut short);
     let mut refused = [b'?'; 1870];
-    print_answer(Supervisor::new(), line, &mut refused);
+    print_answer(output, Supervisor::new(), line, &mut refused);
     let mut accepted = [b'?'; 1870];
-    print_answer(opened(), line, &mut accepted);
+    print_answer(output, opened(), line, &mut accepted);
 }
 
 // Saves a state by values, and prints the refusal and the whole array.
-fn print_saved(s: Supervisor, numbers: &mut [u32], out: &mut [u8]) {
+fn print_saved(output: &mut Stdout, s: Supervisor, numbers: &mut [u32], out: &mut [u8]) {
     let saved = save(s, numbers);
-    io::print_decimal(STDOUT_FILENO, saved.answer.refusal as u64);
-    io::write_all(STDOUT_FILENO, b"\n");
+    print_number(output, saved.answer.refusal);
     write_numbers(out, numbers);
-    io::write_all(STDOUT_FILENO, out);
-    io::write_all(STDOUT_FILENO, b"\n");
+    print(output, out);
+    print(output, b"\n");
 }
 
 // The state by values: an array of 159 places stays as it was, of 161 the columns take 135.
-fn record_arrays() {
+fn record_arrays(output: &mut Stdout) {
     let mut short = [7u32; 159];
     let mut fields = [b'?'; 1749];
-    print_saved(opened(), &mut short, &mut fields);
+    print_saved(output, opened(), &mut short, &mut fields);
     let mut long = [7u32; 161];
     let mut more = [b'?'; 1771];
-    print_saved(opened(), &mut long, &mut more);
+    print_saved(output, opened(), &mut long, &mut more);
 }
 
-fn main() {
+fn main(rt: HostRuntime) {
+    let mut output = rt.stdout();
     let mut head = [0u8; HEAD];
     let mut sheet = buffer();
     let mut out = buffer();
-    short_buffer();
-    totals_buffers();
-    record_buffers();
-    record_arrays();
-    replay_all(&mut head, &mut sheet, &mut out);
+    short_buffer(&mut output);
+    totals_buffers(&mut output);
+    record_buffers(&mut output);
+    record_arrays(&mut output);
+    replay_all(&mut rt.stdin(), &mut output, &mut head, &mut sheet, &mut out);
 }

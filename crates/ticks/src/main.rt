@@ -6,10 +6,10 @@ use falcon_failsafe::flight::Opening;
 use falcon_flight::tick::{TickAnswer, tick};
 use falcon_guidance::legs::legs;
 use falcon_guidance::state::{Point, Tick};
-use libc::STDOUT_FILENO;
 use relay_batt::Reading;
 use relay_fsm::Event;
 use relay_math::to_bits;
+use std::io;
 
 // The days of a run, and the ticks of each part of a day: in Takeoff and Loiter, in Mission, and on the way home.
 const DAYS: u32 = 500;
@@ -139,13 +139,13 @@ fn day(sum: u64) -> u64 {
     back.sum
 }
 
-fn main() {
+fn main(rt: HostRuntime) -> io::Result<()> {
     let mut sum = 0;
     let mut days = 0;
     while days < DAYS {
         sum = day(sum);
         days += 1;
     }
-    io::print_decimal(STDOUT_FILENO, sum % 4_294_967_296);
-    io::write_all(STDOUT_FILENO, b"\n");
+    let rest = sum % 4_294_967_296;
+    println!(rt; "{rest}")
 }

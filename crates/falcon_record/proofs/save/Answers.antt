@@ -7,25 +7,26 @@ use Rattle.falcon_record.proofs.Saving.{short_saved, full_saved, saved_accepted,
 use borrow.Author.Rules.{rules}
 use Rattle.falcon_record.proofs.save.Goals as goal
 
--- CLAUSES answered array
 pub returns-then-numbers-lt-RECORD_ROOM : goal.returns-then-numbers-lt-RECORD_ROOM
 returns-then-numbers-lt-RECORD_ROOM c = let a = c.args in
     let short = short_saved a.s a.numbers.now c.if-numbers-lt-RECORD_ROOM.true in
-    (c.refused.ensures ∙ short.0, short.1)
+    record { answered = c.refused.ensures ∙ short.0; array = short.1 }
 
--- CLAUSES answered array
 pub returns-then-saved-eq-ACCEPTED : goal.returns-then-saved-eq-ACCEPTED
 returns-then-saved-eq-ACCEPTED c = let a = c.args in
     let full = c.if-numbers-lt-RECORD_ROOM.false in
-    let saved = c.save-saved.ensures in (
-      saved ∙ full_saved a.s a.numbers.now full,
-      saved_accepted a.s a.numbers.now full _ (ap (λ (x : Answered). x.answer.refusal) (sym saved) ∙ c.if-saved-eq-ACCEPTED.true)
-          (c.put_numbers.ensures ∙ ap (λ (l : List ℕ). put_over 0 l a.numbers.now) c.record_columns.ensures),
-    )
+    let saved = c.save-saved.ensures in
+    record {
+      answered = saved ∙ full_saved a.s a.numbers.now full;
+      array = saved_accepted a.s a.numbers.now full _ (ap (λ (x : Answered). x.answer.refusal) (sym saved) ∙ c.if-saved-eq-ACCEPTED.true)
+          (c.put_numbers.ensures ∙ ap (λ (l : List ℕ). put_over 0 l a.numbers.now) c.record_columns.ensures);
+    }
 
--- CLAUSES answered array
 pub returns-else-saved-eq-ACCEPTED : goal.returns-else-saved-eq-ACCEPTED
 returns-else-saved-eq-ACCEPTED c = let a = c.args in
     let full = c.if-numbers-lt-RECORD_ROOM.false in
     let saved = c.save-saved.ensures in
-    (saved ∙ full_saved a.s a.numbers.now full, saved_refused a.s a.numbers.now full (λ e. c.if-saved-eq-ACCEPTED.false (ap (λ (x : Answered). x.answer.refusal) saved ∙ e)))
+    record {
+      answered = saved ∙ full_saved a.s a.numbers.now full;
+      array = saved_refused a.s a.numbers.now full (λ e. c.if-saved-eq-ACCEPTED.false (ap (λ (x : Answered). x.answer.refusal) saved ∙ e));
+    }

@@ -1,5 +1,4 @@
 -- `from_bits` is the library's `of_bits`, which reads every NaN pattern as NaN.
-use mathlib.Core.Path.{refl}
 use Rattle.relay_math.proofs.Small.{nan_pattern, no_nan_pattern}
 use Rattle.relay_math.proofs.from_bits.Goals as goal
 

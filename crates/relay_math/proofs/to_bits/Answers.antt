@@ -1,5 +1,5 @@
 -- `to_bits` is the library's `to_bits`, which writes NaN as 7FC00000.
-use mathlib.Core.Path.{refl, sym, ◌∙◌}
+use mathlib.Core.Path.{sym, ◌∙◌}
 use Rattle.relay_math.proofs.Small.{ne_self, nan_written}
 use Rattle.relay_math.proofs.to_bits.Goals as goal
 

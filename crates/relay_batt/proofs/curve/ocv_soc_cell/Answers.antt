@@ -1,5 +1,5 @@
 -- `ocv_soc_cell` is `ocv_soc_cell_of`. The loop's invariant: what is found from the place i on is the answer.
-use Rattle.std.proofs.Common.{◌≡◌, ℕ, ◌+◌, ◌-◌, ◌*◌, ◌^◌, ◌<◌, ◌≤◌, true, false, get_or, sym, ap, ◌∙◌, arith, lit≤, rules}
+use Rattle.std.proofs.Common.{◌≡◌, ℕ, ◌+◌, ◌-◌, ◌*◌, ◌^◌, ◌<◌, ◌≤◌, true, false, get_or, sym, ap, ◌∙◌, arith, lit≤}
 use lib.Ieee.{Float, le}
 use Rattle.relay_batt.specs.Curve.{zero, sanitize_of, knot, knots, table_of, cell_max, ocv_soc_cell_of}
 use Rattle.relay_batt.proofs.Walk.{rest, found, passed, ended}
@@ -9,21 +9,45 @@ use Rattle.relay_batt.proofs.curve.ocv_soc_cell.Goals as goal
 -- the volts of the first knot
 abbrev lowest : Float
 lowest = (get_or knots 0 (knot 0 0)).v
+
 module _ (x : Float) {v : Float} (cut : v ≡ sanitize_of x zero cell_max zero) where
   below : le v lowest ≡ true → zero ≡ ocv_soc_cell_of x
   unfolding knots table_of ocv_soc_cell_of
   below h = simp (sym cut, h)
+
   above : le v lowest ≡ false → rest knots v 1 ≡ ocv_soc_cell_of x
   unfolding knots table_of ocv_soc_cell_of
   above h = simp (sym cut, h)
 
+module _ (i : ℕ) (h : i < 8) where
+  scaled : i * 8 < 2 ^ 64
+  scaled = omega arith
+
+  scaled-before : (i - 1) * 8 < 2 ^ 64
+  scaled-before = omega arith
+
+  before-fits : i - 1 < 8
+  before-fits = omega arith
+
+  next_fits : i + 1 < 2 ^ 64
+  next_fits = omega arith
+
+  one_more : 1 ≤ i + 1
+  one_more = omega arith
+
+  next : i + 1 ≤ 8
+  next = omega arith
+
+  less : 8 - (i + 1) < 8 - i
+  less = omega arith
+
 pub returns-then-v : goal.returns-then-v
 unfolding knots
-returns-then-v c = below c.args.v-cell c.sanitize-v.ensures c.if-v.true
+returns-then-v c = below c.args.v_cell c.sanitize-v.ensures c.if-v.true
 
 pub loop-i-init : goal.loop-i-init
 unfolding knots
-loop-i-init c = (lit≤ tt, lit≤ tt, above c.args.v-cell c.sanitize-v.ensures c.if-v.false)
+loop-i-init c = (lit≤ tt, lit≤ tt, above c.args.v_cell c.sanitize-v.ensures c.if-v.false)
 
 pub offset_bounds-i : goal.offset_bounds-i
 offset_bounds-i c = record { fits = scaled _ c.loop-i-test.true }
@@ -55,10 +79,10 @@ loop-i-smaller c = less _ c.loop-i-test.true
 pub loop-i-preserved : goal.loop-i-preserved
 unfolding knots
 loop-i-preserved c = (
-      one_more _ c.loop-i-test.true,
-      next _ c.loop-i-test.true,
-      sym (passed knots c.sanitize-v.result c.loop-i.i c.loop-i-test.true c.if-v-k1.false) ∙ c.loop-i.invariant.2,
-    )
+  one_more _ c.loop-i-test.true,
+  next _ c.loop-i-test.true,
+  sym (passed knots c.sanitize-v.result c.loop-i.i c.loop-i-test.true c.if-v-k1.false) ∙ c.loop-i.invariant.2,
+)
 
 pub returns : goal.returns
 returns c = let e : c.loop-i.i ≡ 8 = omega arith in

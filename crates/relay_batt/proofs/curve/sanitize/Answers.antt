@@ -1,5 +1,5 @@
 -- `sanitize` is `sanitize_of`: the test is finiteness, and the rest is `clamp`.
-use Rattle.std.proofs.Common.{sym, ◌∙◌, rules}
+use Rattle.std.proofs.Common.{sym, ◌∙◌}
 use Rattle.relay_batt.specs.Curve.{sanitize_of}
 use Rattle.relay_batt.proofs.curve.sanitize.Goals as goal
 

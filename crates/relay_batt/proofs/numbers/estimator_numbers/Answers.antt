@@ -1,5 +1,4 @@
 use Rattle.relay_batt.specs.Numbers.{estimator_numbers_of}
-use Rattle.std.proofs.Common.{rules}
 use Rattle.relay_batt.proofs.numbers.estimator_numbers.Goals as goal
 
 pub returns : goal.returns

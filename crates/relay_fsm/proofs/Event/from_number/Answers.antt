@@ -1,7 +1,6 @@
 -- `Event::from_number` meets its contract: the test tells whether the number is in the table.
 -- Assumes nothing.
 use borrow.Author.Tests.{lt-ltb, le-ltb}
-use borrow.Author.Rules.{rules}
 use Rattle.relay_fsm.specs.Event.{event_at}
 use Rattle.relay_fsm.proofs.Event.from_number.Goals as goal
 

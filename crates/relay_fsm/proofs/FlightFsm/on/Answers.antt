@@ -1,6 +1,5 @@
 -- `FlightFsm::on` meets its contract, by what `row` and `applied` ensure.
 -- Assumes nothing.
-use borrow.Author.Rules.{rules}
 use Rattle.relay_fsm.specs.Fsm.{on_of}
 use Rattle.relay_fsm.proofs.FlightFsm.on.Goals as goal
 

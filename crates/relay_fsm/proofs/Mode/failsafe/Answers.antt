@@ -1,6 +1,5 @@
 -- `Mode::failsafe` meets its contract: the tests on the mode, rewritten by what `is` ensures, pick the row.
 -- Assumes nothing.
-use borrow.Author.Rules.{rules}
 use Rattle.relay_fsm.specs.Fsm.{row_of}
 use Rattle.relay_fsm.proofs.Mode.failsafe.Goals as goal
 

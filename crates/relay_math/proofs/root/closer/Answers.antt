@@ -2,7 +2,6 @@
 use Prim.Native.Nat.{ℕ, ◌/◌, ◌^◌, ◌≤◌, ◌<◌}
 use native.Mathlib.Nat.{lt_of_lt_of_le, mul-le-mul_left, div-lt_iff_lt-mul}
 use native.Mathlib.Omega.{arith}
-use borrow.Author.Rules.{rules}
 use Rattle.relay_math.proofs.Squares.{newton_above}
 use Rattle.relay_math.proofs.root.closer.Goals as goal
 

@@ -4,7 +4,6 @@ use mathlib.Core.Path.{sym, ap, ◌∙◌}
 use mathlib.Core.Bool.{false}
 use native.Mathlib.Nat.{lt_of_le_of_lt}
 use native.Mathlib.Omega.{arith}
-use borrow.Author.Rules.{rules}
 use lib.Dec.{lit<, lit≤}
 use lib.Ieee.{div, odd, of_bits}
 use Rattle.relay_math.proofs.Rounding.{root_24, nearest_23, range_tiny, range_large, range_inside, small_is, packed_is}

@@ -5,7 +5,6 @@ use mathlib.Core.Path.{◌≡◌, sym, ◌∙◌}
 use native.Mathlib.Nat.{le_of_lt, lt_of_le_of_lt, lt_of_lt_of_le, add-mul, mul_assoc, mul-le-mul, mod-eq_of_lt, div-mul-le_self}
 use native.Mathlib.Numerals.{add-one}
 use native.Mathlib.Omega.{arith}
-use borrow.Author.Rules.{rules}
 use lib.Dec.{lit≤}
 use lib.Pow.{pow_mono, shr_le}
 use Rattle.relay_math.proofs.Rounding.{nearest_by}
@@ -54,7 +53,7 @@ pub returns-then-n-h : goal.returns-then-n-h
 returns-then-n-h c = sym (nearest_by c.args.n c.args.q c.args.k Ordering.lt (c.requires.1, c.requires.2) (rw (shifted (goal.at.returns-then-n-h c).Start) at c.if-n-h.true))
 
 pub overflow_mul-h-3 : goal.overflow_mul-h-3
-overflow_mul-h-3 c = mul-if1-2 (goal.at.overflow_mul-h-3 c).Start
+overflow_mul-h-3 c = rw (shifted (goal.at.overflow_mul-h-3 c).Start) (omega (arith, square-under (goal.at.overflow_mul-h-3 c).Start))
 
 pub overflow_add-result : goal.overflow_add-result
 overflow_add-result c = omega (arith, kept (goal.at.overflow_add-result c).Start)

@@ -3,7 +3,6 @@ use Prim.Native.Nat.{ℕ, ◌-◌, ◌*◌, ◌%◌, ◌^◌, ◌≤◌, ◌<◌
 use mathlib.Core.Path.{◌≡◌}
 use native.Mathlib.Nat.{lt_of_lt_of_le, mod-eq_of_lt}
 use native.Mathlib.Omega.{arith}
-use borrow.Author.Rules.{rules}
 use lib.Dec.{lit≤}
 use lib.Count.{count_leading_zeros}
 use Rattle.relay_math.proofs.Patterns.{zeros, value_normal, value_subnormal}

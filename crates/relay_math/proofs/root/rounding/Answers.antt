@@ -4,7 +4,6 @@ use mathlib.Core.Path.{sym, ap, ◌∙◌}
 use mathlib.Core.Bool.{false}
 use native.Mathlib.Nat.{le_trans, le-add_right, mul-le-mul, le_of_lt}
 use native.Mathlib.Omega.{arith}
-use borrow.Author.Rules.{rules}
 use lib.Ieee.{odd}
 use Rattle.relay_math.proofs.Rounding.{root_24, nearest_down, nearest_up, rounding_at}
 use Rattle.relay_math.proofs.root.rounding.Goals.{Start}

@@ -3,7 +3,6 @@ use mathlib.Core.Path.{sym, ap, ◌∙◌}
 use lib.Ieee.{binary32}
 use native.Mathlib.Nat.{lt_of_lt_of_le, mul-pos}
 use lib.Dec.{lit<}
-use borrow.Author.Rules.{rules}
 use Rattle.relay_math.specs.Root.{unlimited_precision_of, rounding, exponent_range_of}
 use Rattle.relay_math.specs.RootCode.{exact_of}
 use Rattle.relay_math.proofs.Scale.{four_pos, same_rounding, same_range}

@@ -4,7 +4,6 @@ use mathlib.Core.Path.{sym, subst}
 use mathlib.Core.Bool.{false}
 use native.Mathlib.Nat.{lt_of_le_of_lt}
 use native.Mathlib.Omega.{arith}
-use borrow.Author.Rules.{rules}
 use lib.Dec.{T, lit<}
 use lib.Ieee.{binary32, fits}
 use lib.Ieee.Bits.{of_bits-to_bits}
@@ -16,7 +15,7 @@ use Rattle.relay_math.proofs.root.unlimited_precision.Goals.{After-radicand_of-s
 use Rattle.relay_math.proofs.root.unlimited_precision.Goals as goal
 
 held : (c : Start) → T (fits binary32 c.args.x)
-held c = subst T (sym c.well-formed.0.1) tt
+held c = subst T (sym c.well_formed.0.1) tt
 
 pub float_to_bits-x : goal.float_to_bits-x
 float_to_bits-x c = rw (above_number c.args.x c.requires) tt

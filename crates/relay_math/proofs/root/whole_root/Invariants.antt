@@ -1,9 +1,5 @@
 -- `whole_root`: after the steps q is no less than the root, and the loop takes off what is too much. The invariant: n < (q + 1) * (q + 1). The measure: q.
-use Prim.Native.Nat.{ℕ, ◌+◌, ◌*◌, ◌≤◌, ◌<◌}
-use native.Mathlib.Nat.{le_of_lt, mul-le-mul, sub-add_cancel}
-use native.Mathlib.Omega.{arith}
-use borrow.Author.Rules.{rules}
-use Rattle.relay_math.proofs.Squares.{sq_pos}
+use Prim.Native.Nat.{◌+◌, ◌*◌, ◌<◌}
 use Rattle.relay_math.proofs.root.whole_root.Given as goal
 
 abbrev pub invariant-loop-q : goal.invariant-loop-q

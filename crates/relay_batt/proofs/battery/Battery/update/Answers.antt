@@ -1,5 +1,4 @@
 -- `update` is `update_of`, case by case of the reading.
-use Rattle.std.proofs.Common.{rules}
 use Rattle.relay_batt.specs.Battery.{update_of}
 use Rattle.relay_batt.proofs.battery.Battery.update.Goals as goal
 

@@ -1,5 +1,4 @@
 -- `capacity` is `capacity_of`, by what `sanitize` ensures.
-use Rattle.std.proofs.Common.{rules}
 use Rattle.relay_batt.specs.Config.{capacity_of}
 use Rattle.relay_batt.proofs.config.BattConfig.capacity.Goals as goal
 

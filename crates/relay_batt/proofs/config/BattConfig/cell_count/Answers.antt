@@ -1,5 +1,5 @@
 -- `cell_count` is `cells_of`: no cells are taken as one.
-use Rattle.std.proofs.Common.{rules, eq-eqb, ne_eqb}
+use Rattle.std.proofs.Common.{eq-eqb, ne_eqb}
 use Rattle.relay_batt.specs.Config.{cells_of}
 use Rattle.relay_batt.proofs.config.BattConfig.cell_count.Goals as goal
 

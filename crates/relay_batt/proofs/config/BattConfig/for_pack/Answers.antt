@@ -1,5 +1,4 @@
 -- `for_pack` is `for_pack_of`, by what each call ensures.
-use Rattle.std.proofs.Common.{rules}
 use Rattle.relay_batt.specs.Config.{default_of, for_pack_of}
 use Rattle.relay_batt.proofs.config.BattConfig.for_pack.Goals as goal
 

@@ -1,5 +1,4 @@
 -- `per_cell` is `per_cell_of`, by what `cell_count` ensures.
-use Rattle.std.proofs.Common.{rules}
 use Rattle.relay_batt.specs.Config.{per_cell_of}
 use Rattle.relay_batt.proofs.config.BattConfig.per_cell.Goals as goal
 

@@ -1,5 +1,5 @@
 -- `consumed` is `consumed_of`, by what each call ensures.
-use Rattle.std.proofs.Common.{◌∙◌, ap₂, rules}
+use Rattle.std.proofs.Common.{◌∙◌, ap₂}
 use Rattle.relay_batt.specs.Curve.{zero, sanitize_of}
 use Rattle.relay_batt.specs.Estimator.{consumed_of}
 use Rattle.relay_batt.proofs.estimator.BatteryEstimator.consumed.Goals as goal

@@ -1,5 +1,5 @@
 -- `new` is `new_of`, by what each call ensures.
-use Rattle.std.proofs.Common.{false, rules}
+use Rattle.std.proofs.Common.{false}
 use Rattle.relay_batt.specs.Curve.{zero}
 use Rattle.relay_batt.specs.Estimator.{new_of}
 use Rattle.relay_batt.proofs.estimator.BatteryEstimator.new.Goals as goal

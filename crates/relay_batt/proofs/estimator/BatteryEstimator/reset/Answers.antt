@@ -1,5 +1,5 @@
 -- `reset` is `reset_of`, by what each call ensures.
-use Rattle.std.proofs.Common.{false, rules}
+use Rattle.std.proofs.Common.{false}
 use Rattle.relay_batt.specs.Curve.{zero}
 use Rattle.relay_batt.specs.Estimator.{reset_of}
 use Rattle.relay_batt.proofs.estimator.BatteryEstimator.reset.Goals as goal

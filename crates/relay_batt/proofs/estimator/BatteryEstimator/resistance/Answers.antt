@@ -1,5 +1,4 @@
 -- `resistance` is `r_est_of`: blended exactly where the test passes.
-use Rattle.std.proofs.Common.{rules}
 use Rattle.relay_batt.specs.Estimator.{r_est_of}
 use Rattle.relay_batt.proofs.estimator.BatteryEstimator.resistance.Goals as goal
 

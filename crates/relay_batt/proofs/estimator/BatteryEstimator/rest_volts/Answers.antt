@@ -1,5 +1,4 @@
 -- `rest_volts` is `rest_of`, by what `sanitize` ensures.
-use Rattle.std.proofs.Common.{rules}
 use Rattle.relay_batt.specs.Estimator.{rest_of}
 use Rattle.relay_batt.proofs.estimator.BatteryEstimator.rest_volts.Goals as goal
 

@@ -1,5 +1,4 @@
 -- `soc` is `soc_of`: the lower of the two.
-use Rattle.std.proofs.Common.{rules}
 use Rattle.relay_batt.specs.Estimator.{soc_of, soc_coulomb_of}
 use Rattle.relay_batt.proofs.estimator.BatteryEstimator.soc.Goals as goal
 

@@ -1,5 +1,5 @@
 -- `update_amps` is `update_amps_of`, by what each call ensures.
-use Rattle.std.proofs.Common.{◌∙◌, rules}
+use Rattle.std.proofs.Common.{◌∙◌}
 use Rattle.relay_batt.specs.Estimator.{update_amps_of, with_amps_of}
 use Rattle.relay_batt.proofs.estimator.BatteryEstimator.update_amps.Goals as goal
 

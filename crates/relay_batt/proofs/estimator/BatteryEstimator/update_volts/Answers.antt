@@ -1,5 +1,5 @@
 -- `update_volts` is `update_volts_of`, by what each call ensures.
-use Rattle.std.proofs.Common.{◌∙◌, ap₂, rules}
+use Rattle.std.proofs.Common.{◌∙◌, ap₂}
 use Rattle.relay_batt.specs.Estimator.{update_volts_of, volts_only_of}
 use Rattle.relay_batt.proofs.estimator.BatteryEstimator.update_volts.Goals as goal
 

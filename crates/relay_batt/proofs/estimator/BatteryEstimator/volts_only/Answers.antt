@@ -1,5 +1,5 @@
 -- `volts_only` is `volts_only_of`, by what each call ensures.
-use Rattle.std.proofs.Common.{◌≡◌, true, false, rules}
+use Rattle.std.proofs.Common.{◌≡◌, true, false}
 use lib.Ieee.{Float, lt}
 use Rattle.relay_batt.specs.Curve.{zero, ocv_soc_cell_of}
 use Rattle.relay_batt.specs.Config.{per_cell_of}

@@ -1,5 +1,5 @@
 -- `with_amps` is `with_amps_of`, by what each call ensures.
-use Rattle.std.proofs.Common.{◌≡◌, true, false, rules}
+use Rattle.std.proofs.Common.{◌≡◌, true, false}
 use lib.Ieee.{Float, lt}
 use Rattle.relay_batt.specs.Latch.{trip_of}
 use Rattle.relay_batt.specs.Estimator.{consumed_of, r_est_of, rest_of, soc_of, shown_of, with_amps_of}

@@ -1,5 +1,4 @@
 -- `update` is `trip_of`: each return has the tests that led to it.
-use Rattle.std.proofs.Common.{rules}
 use Rattle.relay_batt.specs.Latch.{trip_of}
 use Rattle.relay_batt.proofs.latch.TripLatch.update.Goals as goal
 

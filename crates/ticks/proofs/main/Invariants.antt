@@ -1,0 +1,11 @@
+-- The days left fall with every turn.
+use Prim.Native.Nat.{◌-◌}
+use native.Mathlib.Omega.{arith}
+use borrow.Author.Rules.{rules}
+use Rattle.ticks.proofs.main.Given as goal
+
+abbrev pub invariant-loop-days : goal.invariant-loop-days
+invariant-loop-days l = Unit
+
+abbrev pub decreases-loop-days : goal.decreases-loop-days
+decreases-loop-days l = 500 - l.days
