@@ -1,17 +1,17 @@
-// Links target/staticlib/libexports.a, which `rt staticlib exports` writes; with the feature `before` its copy and the other tree's, which `harness/bench root` makes.
+// Links crates/exports/out/libexports.a, which `rt lib` writes there; with the feature `before` its copy and the other tree's, which `harness/bench root` makes.
 fn main() {
     if std::env::var_os("CARGO_FEATURE_BEFORE").is_some() {
-        link("harness/before", "exports");
-        link("harness/before", "before");
+        link("target/harness/before", "exports");
+        link("target/harness/before", "before");
     } else {
-        link("staticlib", "exports");
+        link("crates/exports/out", "exports");
     }
 }
 
-/// Links a library of a folder of target/.
+/// Links a library of a folder of the repository.
 fn link(folder: &str, name: &str) {
     let dir = std::env::var("CARGO_MANIFEST_DIR").unwrap();
-    let lib = format!("{dir}/../../target/{folder}");
+    let lib = format!("{dir}/../../{folder}");
     println!("cargo:rustc-link-search=native={lib}");
     println!("cargo:rustc-link-lib=static={name}");
     println!("cargo:rerun-if-changed={lib}/lib{name}.a");

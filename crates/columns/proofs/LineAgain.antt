@@ -1,7 +1,7 @@
 -- A line of numbers is read as these numbers, a line that is read is theirs, and a line over its limit is broken. Assumes nothing.
 use Rattle.std.proofs.Common.{◌≡◌, ℕ, zero, suc, ◌+◌, ◌*◌, ◌/◌, ◌%◌, ◌<◌, ◌≤◌, true, false, List, [], ◌∷◌, ◌++◌, length, get_or, take, drop, sym, refl, ap, ◌∙◌, arith, length-drop, take-append-drop, length-take, length-take-le, take-take, take_at, drop_at, le-ltb, lt-ltb, eq-eqb, ne_eqb, le-leb}
 use native.Mathlib.Decide.{ℕ_discrete, dec_le}
-use mathlib.Core.Bool.{and_false}
+use mathlib.Core.Bool.{and-false}
 use borrow.Author.Tests.{lt-leb}
 use Rattle.columns.specs.declared.field.FieldRead.{FieldRead}
 use Rattle.columns.specs.declared.field.FieldRead.TheVariants.{Number, Bad}
@@ -25,12 +25,12 @@ module _ (limit n : ℕ) where
   -- "no multiple of 11"
   pub length_uneven : (n % field_width ≡ 0 → ⊥) → length_ok limit n ≡ false
   unfolding length_ok
-  length_uneven uneven = simp (ne_eqb (n % field_width) 0 uneven, and_false)
+  length_uneven uneven = simp (ne_eqb (n % field_width) 0 uneven, and-false)
 
   -- "over 1,430"
   pub length_long : field_width * limit < n → length_ok limit n ≡ false
   unfolding length_ok
-  length_long long = simp (lt-leb n (field_width * limit) long, and_false)
+  length_long long = simp (lt-leb n (field_width * limit) long, and-false)
 
 module _ (limit : ℕ) (s : List ℕ) where
   pub within_ok : 0 < length s → length s % field_width ≡ 0 → length s ≤ field_width * limit → read_within limit s ≡ fields (length s / field_width) s

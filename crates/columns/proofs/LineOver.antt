@@ -1,7 +1,7 @@
 -- What the line reader answers and leaves in its array. Assumes nothing.
 use Rattle.std.proofs.Common.{◌≡◌, ℕ, zero, suc, ◌*◌, ◌/◌, ◌<◌, ◌≤◌, Bool, true, false, cond, ◌&&◌, leb, List, ◌∷◌, length, take, drop, sym, refl, ap, ◌∙◌, arith, length-append, le-ltb, lt-ltb, le-leb}
 use native.Mathlib.Decide.{dec_le}
-use mathlib.Core.Bool.{and_false}
+use mathlib.Core.Bool.{and-false}
 use lib.Seq.{take-append_seam}
 use borrow.Author.Tests.{lt-leb}
 use Rattle.columns.specs.declared.field.FieldRead.{FieldRead}
@@ -31,7 +31,7 @@ module _ (limit : ℕ) (s a : List ℕ) where
 
   pub few_over : length a < length s / field_width → a ≡ numbers_over limit s a
   unfolding numbers_over
-  few_over few = simp (lt-leb (length s / field_width) (length a) few, and_false)
+  few_over few = simp (lt-leb (length s / field_width) (length a) few, and-false)
 
   -- room for every field
   pub room_answer : length_ok limit (length s) ≡ true → length s / field_width ≤ length a → line_answer limit s (length a) ≡ count_of (fields (length s / field_width) s)
@@ -58,7 +58,7 @@ pub enough : (limit : ℕ) (s : List ℕ) (places : ℕ) → limit ≤ places �
 unfolding line_answer
 enough limit s places h =
     elim (dec_le (length s) (field_width * limit)) [
-      | yes most ↦ simp (le-ltb places (length s / field_width) (omega arith), and_false)
+      | yes most ↦ simp (le-ltb places (length s / field_width) (omega arith), and-false)
       | no long ↦ simp (length_long limit (length s) (omega arith))
     ]
 

@@ -16,7 +16,7 @@ use Rattle.falcon_guidance.specs.Mission.{loaded_of, loaded_points_of}
 use Rattle.falcon_flight.specs.Setpoint.{motors_off_of}
 use Rattle.falcon_failsafe.specs.Failsafe.{without_position_of, motor_lost_of, reported_of}
 use Rattle.falcon_flight.specs.Tick.{after_milestone, holding_of, answered_of, ended_of, tick_of}
-use Rattle.falcon_core.specs.Calls.{Request, Planning, opens, ticks, reports, commands, plans, points, zones, is_opening, due_after_of, commanded_by, refusal_of, legs_in, planned_of, flight_after, waypoints_after, after_of, accepted_of, step_of}
+use Rattle.falcon_core.specs.Calls.{Request, Planning, opens, ticks, reports, commands, plans, points, is_opening, due_after_of, commanded_by, refusal_of, legs_in, planned_of, flight_after, waypoints_after, after_of, accepted_of, step_of}
 use Rattle.falcon_core.proofs.Answers.{step_accepted}
 use Rattle.falcon_core.proofs.Stages.{answered_flight, tick_config}
 use Rattle.falcon_core.proofs.Refused.{step_keeps}

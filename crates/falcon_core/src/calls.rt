@@ -416,7 +416,7 @@ impl Supervisor {
     // A new list of waypoints, three numbers each; one bad point refuses the list and the old one stays.
     pub fn set_mission_waypoints(self, lent: &[f32]) -> Answered
         ensures answered { result ≡ step_of self (plans (points lent.now)) }
-        ensures unchanged { lent.now ≡ lent.now }
+        ensures unchanged { lent.exit.now ≡ lent.entry.now }
     {
         if lent.len() % Point::NUMBERS != 0 {
             return refused(self, Answer::WRONG_COUNT);
@@ -436,7 +436,7 @@ impl Supervisor {
     // The keep-out zones, four numbers each: the first eight are kept, untested.
     pub fn set_keepout_zones(self, lent: &[f32]) -> Answered
         ensures answered { result ≡ step_of self (plans (zones lent.now)) }
-        ensures unchanged { lent.now ≡ lent.now }
+        ensures unchanged { lent.exit.now ≡ lent.entry.now }
     {
         if lent.len() % Zone::NUMBERS != 0 {
             return refused(self, Answer::WRONG_COUNT);

@@ -64,7 +64,7 @@ module _ (f : FlightSupervisor) (t : Tick) where
   unfolding milestone_of milestone_gives leg_of high_of near_home_of near_ground_of arrived_of milestone_by_of milestone_in
   milestone_parts l = refl
 
-  answered_by_lem :
+  answered_by :
       (p : Point) (off : Bool)
       → motors_off_of f.fsm.mode ≡ off
       → answered_of f p t
@@ -74,8 +74,8 @@ module _ (f : FlightSupervisor) (t : Tick) where
             answer_in f.fsm.mode f.config p f.zones f.hold.hold_xy (distance_of t.p f.config.home) f.motors_were_off t;
       }
   unfolding answered_of answer_in commanded_of landing_of setpoint_of
-  answered_by_lem p true e = rw e
-  answered_by_lem p false e = rw e
+  answered_by p true e = rw e
+  answered_by p false e = rw e
 
 -- the flight after the paragraphs before the first event, after the failsafes, after the milestone, and after the hold
 module _ (f : FlightSupervisor) (l : Legs) (t : Tick) where
@@ -149,7 +149,7 @@ module _ (f : FlightSupervisor) (l : Legs) (t : Tick) where
       sym
       (ap (λ (g : FlightSupervisor). ended_of index (milestone_of (wind_of (runaway_of (breached_of g t) t) t) l t) l t) sensed_parts
       ∙ (ap (λ (g : FlightSupervisor). ended_of index (milestone_of g l t) l t) guarded_parts
-      ∙ (ap (λ (g : FlightSupervisor). ended_of index g l t) passed_parts ∙ (ended_parts ∙ answered_by_lem flight t waypoint _ refl))))
+      ∙ (ap (λ (g : FlightSupervisor). ended_of index g l t) passed_parts ∙ (ended_parts ∙ answered_by flight t waypoint _ refl))))
 
 -- the facts of the calls, put together
 pub joined :

@@ -44,7 +44,7 @@ pub at : (n : ℕ) (f : Rule n) → T (all n f) → Holds n f
 at zero f t = t
 at (suc n) f t =
     λ a.
-    elim a [
+    elim a as (λ (k : Bool). Holds n (f k)) [
       | true ↦ at n (f true) (and_l (all n (f true)) (all n (f false)) t)
       | false ↦ at n (f false) (and_r (all n (f true)) (all n (f false)) t)
     ]

@@ -239,7 +239,7 @@ pub(crate) fn answer_numbers(
 pub fn answer(s: Supervisor, line: &[u8], out: &mut [u8]) -> LineAnswered
     ensures answered { result ≡ line_answered (line_step s line.now out.old) }
     ensures buffer { out.new ≡ buffer_after s line.now out.old }
-    ensures unchanged { line.now ≡ line.now }
+    ensures unchanged { line.exit.now ≡ line.entry.now }
 {
     if is_short(line, out.len()) {
         return LineAnswered {

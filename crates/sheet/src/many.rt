@@ -56,7 +56,7 @@ fn next_fitting(input: &[u8], from: usize, room: usize) -> usize
 pub fn answer_lines(s: Supervisor, input: &[u8], out: &mut [u8]) -> Progress
     ensures progress { result ≡ progress_of s (fitting s (whole input.now) out.old) }
     ensures buffer { out.new ≡ answers_over s (fitting s (whole input.now) out.old) out.old }
-    ensures unchanged { input.now ≡ input.now }
+    ensures unchanged { input.exit.now ≡ input.entry.now }
 {
     let mut numbers = [0u32; NUMBER_PLACES];
     // The state by its parts: ticks, reports and commands then copy no waypoints (docs/SPEED.md).
@@ -149,7 +149,7 @@ fn none_answered(s: Supervisor) -> Progress
 pub fn answer_last(s: Supervisor, input: &[u8], out: &mut [u8]) -> Progress
     ensures progress { result ≡ progress_in input.now s (fitting s (last_line input.now) out.old) }
     ensures buffer { out.new ≡ answers_over s (fitting s (last_line input.now) out.old) out.old }
-    ensures unchanged { input.now ≡ input.now }
+    ensures unchanged { input.exit.now ≡ input.entry.now }
 {
     if input.len() == 0 {
         return none_answered(s);
@@ -174,7 +174,7 @@ pub fn answer_last(s: Supervisor, input: &[u8], out: &mut [u8]) -> Progress
 pub fn answer_sheet(input: &[u8], out: &mut [u8]) -> Progress
     ensures progress { result ≡ progress_in input.now unopened (fitting unopened (lines_of input.now) out.old) }
     ensures buffer { out.new ≡ answers_over unopened (fitting unopened (lines_of input.now) out.old) out.old }
-    ensures unchanged { input.now ≡ input.now }
+    ensures unchanged { input.exit.now ≡ input.entry.now }
 {
     let s = Supervisor::new();
     let progress = answer_lines(s, input, out);

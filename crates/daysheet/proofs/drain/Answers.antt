@@ -13,7 +13,7 @@ use Rattle.daysheet.proofs.drain.Goals as goal
 pub loop-progress-init : goal.loop-progress-init
 loop-progress-init c = let a = c.args in
     let call = c.answer_lines-progress in
-    (drains_first a.s a.input.now a.out.now call.new.1.1.0 call.result c.requires call.auto.1.1.0 call.ensures.0, refl)
+    (drains_first a.s a.input.now a.out.now call.new.out call.result c.requires call.auto.out call.ensures.value, refl)
 
 pub write-is_written-requires : goal.write-is_written-requires
 write-is_written-requires c = written_fits _ _ _ _ _ _ _ c.loop-progress.invariant.0
@@ -38,11 +38,12 @@ loop-progress-preserved c = let a = c.args in
     let l = c.loop-progress in
     let p = l.progress in
     let call = c.answer_lines-progress-in-loop-progress in (
-      drains_next _ _ _ _ _ _ _ l.invariant.0 call.new.1.1.0 call.result call.auto.1.1.0
-          (call.ensures.0 ∙ ap (λ (t : List ℕ). progress_of p.supervisor (fitting p.supervisor (whole t) l.out)) (to_end a.input.now (l.used + p.used))),
-      call.auto.1.1.0 ∙ l.invariant.1,
+      drains_next _ _ _ _ _ _ _ l.invariant.0 call.new.out call.result call.auto.out
+          (call.ensures.value ∙ ap (λ (t : List ℕ). progress_of p.supervisor (fitting p.supervisor (whole t) l.out)) (to_end a.input.now (l.used + p.used))),
+      call.auto.out ∙ l.invariant.1,
     )
 
--- CLAUSES supervisor_value used_value
 pub returns : goal.returns
-returns c = drains_last _ _ _ _ _ _ _ c.loop-progress.invariant.0 c.loop-progress-test.false
+returns c =
+    let last = drains_last _ _ _ _ _ _ _ c.loop-progress.invariant.0 c.loop-progress-test.false in
+    record { supervisor_value = last.0; used_value = last.1 }

@@ -9,7 +9,7 @@ use Rattle.daysheet.proofs.Reading.{reads_none, reads_more}
 use Rattle.daysheet.proofs.read_all.Given as goal
 
 abbrev pub invariant-loop-turns : goal.invariant-loop-turns
-invariant-loop-turns l = (l.input.have ≤ kept_width) × (ReadsAll l.input.supervisor (take l.input.have l.initial.kept) × ((length l.initial.kept ≡ length l.fn.input) × (length l.initial.turns ≡ length l.fn.output)))
+invariant-loop-turns l = (l.kept.have ≤ kept_width) × (ReadsAll l.kept.supervisor (take l.kept.have l.buf) × ((length l.buf ≡ length l.fn.buf) × (length l.out ≡ length l.fn.out)))
 
 abbrev pub decreases-loop-turns : goal.decreases-loop-turns
-decreases-loop-turns l = l.output
+decreases-loop-turns l = l.turns

@@ -1,5 +1,5 @@
 -- `blank` puts the spaces one by one.
-use Rattle.std.proofs.Common.{◌≡◌, ℕ, ◌+◌, ◌-◌, ◌≤◌, List, length, set, ap, ◌∙◌, arith, length-set}
+use Rattle.std.proofs.Common.{◌≡◌, ℕ, ◌+◌, List, set, ap, ◌∙◌, arith, length-set}
 use Rattle.columns.specs.Field.{field_width, pad, spaces, put}
 use Rattle.columns.proofs.Writing.{blank_first, blank_next}
 use Rattle.columns.proofs.field.blank.Goals as goal

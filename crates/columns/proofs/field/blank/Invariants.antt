@@ -1,7 +1,6 @@
 -- `blank` puts the spaces one by one.
-use Rattle.std.proofs.Common.{◌≡◌, ℕ, ◌+◌, ◌-◌, ◌≤◌, List, length, set, ap, ◌∙◌, arith, length-set}
-use Rattle.columns.specs.Field.{field_width, pad, spaces, put}
-use Rattle.columns.proofs.Writing.{blank_first, blank_next}
+use Rattle.std.proofs.Common.{◌≡◌, ◌-◌, ◌≤◌, length}
+use Rattle.columns.specs.Field.{field_width, spaces, put}
 use Rattle.columns.proofs.field.blank.Given as goal
 
 abbrev pub invariant-loop-i : goal.invariant-loop-i

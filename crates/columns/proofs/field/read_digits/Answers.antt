@@ -1,7 +1,7 @@
 -- `read_digits` is `digits` from 0 on: a turn of the loop is one digit.
-use Rattle.std.proofs.Common.{◌-◌, sym, ◌∙◌, arith}
+use Rattle.std.proofs.Common.{sym, ◌∙◌, arith}
 use Rattle.columns.specs.Field.{in_range}
-use Rattle.columns.proofs.FieldTurns.{DigitsTo, digits_first, digits_next, digits_fit, digits_last, at_none}
+use Rattle.columns.proofs.FieldTurns.{digits_first, digits_next, digits_fit, digits_last, at_none}
 use Rattle.columns.proofs.field.read_digits.Goals as goal
 
 pub loop-i-init : goal.loop-i-init

@@ -1,7 +1,6 @@
 -- `read_digits` is `digits` from 0 on: a turn of the loop is one digit.
-use Rattle.std.proofs.Common.{◌-◌, sym, ◌∙◌, arith}
-use Rattle.columns.specs.Field.{in_range}
-use Rattle.columns.proofs.FieldTurns.{DigitsTo, digits_first, digits_next, digits_fit, digits_last, at_none}
+use Rattle.std.proofs.Common.{◌-◌}
+use Rattle.columns.proofs.FieldTurns.{DigitsTo}
 use Rattle.columns.proofs.field.read_digits.Given as goal
 
 abbrev pub invariant-loop-i : goal.invariant-loop-i

@@ -9,7 +9,7 @@ use Rattle.columns.proofs.field.read_eight.Goals as goal
 -- after the first test
 most : (c : Else-w-ne-ZEROS) → c.eight-w.result ≤ 4557430888798830399
 most c =
-    eight_most c.args.line.now c.args.at c.requires (λ i. (c.shared_slice_known-1.given i).fits) c.eight-w.result
+    eight_most c.args.line.now c.args.at c.requires (λ i. (c.type_inv.line i).fits) c.eight-w.result
     c.eight-w.ensures c.if-w-ne-ZEROS.false
 
 pub returns-then-w-ne-ZEROS : goal.returns-then-w-ne-ZEROS
@@ -48,6 +48,6 @@ overflow_add-result c = let y = pairs_of (c.eight-w.result - 3472328296227680304
 
 pub returns : goal.returns
 returns c = λ q.
-    eight_digits c.args.line.now c.args.at c.requires (λ i. (c.shared_slice_known-1.given i).fits)
+    eight_digits c.args.line.now c.args.at c.requires (λ i. (c.type_inv.line i).fits)
     c.eight-w.result c.eight-w.ensures c.if-w-ne-ZEROS.false c.if-w-ne-ZEROS-2.false
     ∙ in_range_lem _ q

@@ -1,5 +1,5 @@
 -- `read_field` says what `read_value` found.
-use Rattle.std.proofs.Common.{arith, le-ltb, lt-ltb}
+use Rattle.std.proofs.Common.{le-ltb, lt-ltb}
 use Rattle.columns.specs.Field.{in_range}
 use Rattle.columns.proofs.field.read_field.Goals as goal
 

@@ -1,5 +1,4 @@
 -- `read_kind` is `kind_of`.
-use Rattle.std.proofs.Common.{◌∙◌, rules}
 use Rattle.columns.specs.Field.{in_range, kind_of}
 use Rattle.columns.proofs.LineAgain.{kind_short}
 use Rattle.columns.proofs.field.read_kind.Goals as goal

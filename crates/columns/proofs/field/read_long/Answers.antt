@@ -1,5 +1,4 @@
 -- `read_long` reads nine or ten digits at once, and leaves any other field to `read_plain`.
-use Rattle.std.proofs.Common.{arith}
 use Rattle.columns.proofs.Words.{field_long}
 use Rattle.columns.proofs.field.read_long.Goals as goal
 

@@ -1,5 +1,5 @@
 -- `read_value` reads a digit behind ten spaces at once, and leaves any other field to `read_long` and `read_plain`.
-use Rattle.std.proofs.Common.{sym, ◌∙◌, arith}
+use Rattle.std.proofs.Common.{sym, ◌∙◌}
 use Rattle.columns.proofs.Words.{field_one}
 use Rattle.columns.proofs.field.read_value.Goals as goal
 
@@ -22,6 +22,6 @@ pub returns-then-last-ge10 : goal.returns-then-last-ge10
 returns-then-last-ge10 c = c.read_plain-then-last-ge10.ensures
 
 pub returns : goal.returns
-returns c = field_one c.args.line.now c.args.at c.requires (λ i. (c.shared_slice_known-1.given i).fits)
+returns c = field_one c.args.line.now c.args.at c.requires (λ i. (c.type_inv.line i).fits)
     (sym c.eight.ensures ∙ c.if-eight-ne-SPACES.false) (sym c.two.ensures.0 ∙ c.if-two-ne-TWO_SPACES.false)
     c.digit-last.result c.digit-last.ensures.is c.if-last-ge10.false

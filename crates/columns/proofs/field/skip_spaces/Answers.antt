@@ -1,7 +1,5 @@
 -- `skip_spaces` ends where `SkipsTo` says: every place passed has a space.
-use Rattle.std.proofs.Common.{◌≡◌, ◌-◌, ◌≤◌, refl, ◌∙◌, arith}
-use lib.Seq.{slice}
-use Rattle.columns.specs.Field.{spaced}
+use Rattle.std.proofs.Common.{refl, ◌∙◌, arith}
 use Rattle.columns.proofs.FieldTurns.{at_space}
 use Rattle.columns.proofs.field.skip_spaces.Goals as goal
 

@@ -1,8 +1,7 @@
 -- `skip_spaces` ends where `SkipsTo` says: every place passed has a space.
-use Rattle.std.proofs.Common.{◌≡◌, ◌-◌, ◌≤◌, refl, ◌∙◌, arith}
+use Rattle.std.proofs.Common.{◌≡◌, ◌-◌, ◌≤◌}
 use lib.Seq.{slice}
 use Rattle.columns.specs.Field.{spaced}
-use Rattle.columns.proofs.FieldTurns.{at_space}
 use Rattle.columns.proofs.field.skip_spaces.Given as goal
 
 abbrev pub invariant-loop-i : goal.invariant-loop-i

@@ -1,6 +1,6 @@
 -- `write_field` writes the digits from the last to the first into spaces, two a turn.
-use Rattle.std.proofs.Common.{◌≡◌, length, ◌∙◌, arith, length-set}
-use Rattle.columns.proofs.Writing.{Partly, partly_first, partly_more, partly_pair, partly_one, partly_two, length_partly}
+use Rattle.std.proofs.Common.{◌≡◌, length, ◌∙◌, arith}
+use Rattle.columns.proofs.Writing.{partly_first, partly_more, partly_pair, partly_one, partly_two, length_partly}
 use Rattle.columns.proofs.field.write_field.Goals.{At-loop-rest}
 use Rattle.columns.proofs.field.write_field.Goals as goal
 
@@ -27,7 +27,7 @@ bounds-out-i c = omega (arith, long (goal.at.bounds-out-i c).At-loop-rest)
 
 pub returns-then-rest-lt10 : goal.returns-then-rest-lt10
 returns-then-rest-lt10 c = let b = c.blank in
-    partly_one _ _ _ _ _ _ _ c.requires b.auto.0 b.ensures c.loop-rest.invariant c.if-rest-lt10.true
+    partly_one _ _ _ _ _ _ _ c.requires b.auto.out b.ensures c.loop-rest.invariant c.if-rest-lt10.true
 
 pub overflow_sub-i-2 : goal.overflow_sub-i-2
 overflow_sub-i-2 c = let less = partly_more _ _ _ _ _ _ (omega (arith, c.blank.auto.out)) c.loop-rest.invariant (omega arith) in
@@ -40,4 +40,4 @@ write_pair-requires-2 c = let less = partly_more _ _ _ _ _ _ (omega (arith, c.bl
 pub returns : goal.returns
 returns c = let w = c.write_pair-2 in
     let b = c.blank in
-    partly_two _ _ _ _ _ _ _ c.requires b.auto.0 b.ensures c.loop-rest.invariant _ c.if-rest-lt10.false (omega arith) w.ensures
+    partly_two _ _ _ _ _ _ _ c.requires b.auto.out b.ensures c.loop-rest.invariant _ c.if-rest-lt10.false (omega arith) w.ensures

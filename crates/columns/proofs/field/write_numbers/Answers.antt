@@ -1,6 +1,6 @@
 -- `write_numbers` writes a field a turn, or nothing.
-use Rattle.std.proofs.Common.{◌-◌, length, ◌∙◌, arith}
-use Rattle.columns.proofs.Writing.{Wrote, wrote_first, wrote_next, wrote_last, no_room, room}
+use Rattle.std.proofs.Common.{◌∙◌, arith}
+use Rattle.columns.proofs.Writing.{wrote_first, wrote_next, wrote_last, no_room, room}
 use Rattle.columns.proofs.field.write_numbers.Goals as goal
 
 pub returns-then-out-numbers : goal.returns-then-out-numbers
@@ -12,7 +12,7 @@ loop-k-init c = wrote_first _ _
 
 pub loop-k-preserved : goal.loop-k-preserved
 loop-k-preserved c = let w = c.write_field in
-    wrote_next _ _ _ _ _ _ c.loop-k-test.true w.auto.0 w.ensures c.loop-k.invariant
+    wrote_next _ _ _ _ _ _ c.loop-k-test.true w.auto.out w.ensures c.loop-k.invariant
 
 pub returns : goal.returns
 returns c = wrote_last _ _ _ _ _ c.loop-k-test.false c.loop-k.invariant ∙ room _ _ c.if-out-numbers.false

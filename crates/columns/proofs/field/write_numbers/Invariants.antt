@@ -1,6 +1,6 @@
 -- `write_numbers` writes a field a turn, or nothing.
-use Rattle.std.proofs.Common.{◌-◌, length, ◌∙◌, arith}
-use Rattle.columns.proofs.Writing.{Wrote, wrote_first, wrote_next, wrote_last, no_room, room}
+use Rattle.std.proofs.Common.{◌-◌, length}
+use Rattle.columns.proofs.Writing.{Wrote}
 use Rattle.columns.proofs.field.write_numbers.Given as goal
 
 abbrev pub invariant-loop-k : goal.invariant-loop-k

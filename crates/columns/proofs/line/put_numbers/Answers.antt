@@ -1,5 +1,5 @@
 -- After i turns the first i numbers are there.
-use Rattle.std.proofs.Common.{◌≡◌, ◌+◌, ◌-◌, ◌≤◌, length, take, sym, refl, ap, ◌∙◌, add-one, arith, length-set, take_all, rules}
+use Rattle.std.proofs.Common.{◌+◌, ◌≤◌, length, sym, refl, ap, ◌∙◌, add-one, arith, length-set, take_all, rules}
 use Rattle.columns.specs.Field.{put}
 use Rattle.columns.proofs.Writing.{put_none, put_next, put_room, put_short}
 use Rattle.columns.proofs.line.put_numbers.Goals as goal

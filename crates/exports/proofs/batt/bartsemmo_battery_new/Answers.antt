@@ -6,15 +6,15 @@ use Rattle.exports.specs.Batt.{short_number, stored_of, new_from}
 use borrow.Author.Rules.{rules}
 use Rattle.exports.proofs.batt.bartsemmo_battery_new.Goals as goal
 
--- CLAUSES answer stored
 pub returns-then-numbers-lt-SIZE : goal.returns-then-numbers-lt-SIZE
 unfolding short_number stored_of
-returns-then-numbers-lt-SIZE c = (simp (lt-ltb _ _ c.if-numbers-lt-SIZE.true), simp (lt-ltb _ _ c.if-numbers-lt-SIZE.true))
+returns-then-numbers-lt-SIZE c = record { answer = simp (lt-ltb _ _ c.if-numbers-lt-SIZE.true); stored = simp (lt-ltb _ _ c.if-numbers-lt-SIZE.true) }
 
--- CLAUSES answer stored
 pub returns : goal.returns
 unfolding new_from
-returns c = let l = c.before.before.before.before.before.before.before.before.before.args.numbers.now in (
-      room l c.if1.false,
-      put_stored l (new_from c.before.before.before.before.before.before.before.before.before.args.numbers.now) c.if1.false c.put_battery.ensures (c.new-battery.ensures ∙ ap opened_of c.config_from.ensures),
-    )
+returns c = let l = c.args.numbers.now in
+    let left = c.if-numbers-lt-SIZE.false in
+    record {
+      answer = room l left;
+      stored = put_stored l (new_from l) left c.put_battery.ensures (c.new-battery.ensures ∙ ap opened_of c.config_from.ensures);
+    }

@@ -8,17 +8,16 @@ use Rattle.exports.specs.Batt.{short_number, stored_of, opened_for}
 use borrow.Author.Rules.{rules}
 use Rattle.exports.proofs.batt.bartsemmo_battery_opened.Goals as goal
 
--- CLAUSES answer stored
 pub returns-then-numbers-lt-SIZE : goal.returns-then-numbers-lt-SIZE
 unfolding short_number stored_of
-returns-then-numbers-lt-SIZE c = (simp (lt-ltb _ _ c.if-numbers-lt-SIZE.true), simp (lt-ltb _ _ c.if-numbers-lt-SIZE.true))
+returns-then-numbers-lt-SIZE c = record { answer = simp (lt-ltb _ _ c.if-numbers-lt-SIZE.true); stored = simp (lt-ltb _ _ c.if-numbers-lt-SIZE.true) }
 
--- CLAUSES answer stored
 pub returns : goal.returns
 unfolding opened_for
 returns c = let a = c.args in
     let left = c.if-numbers-lt-SIZE.false in
-    let pack = c.for_pack.ensures ∙ ap (for_pack_of a.cells) c.from_bits.ensures in (
-      room a.numbers.now left,
-      put_stored a.numbers.now (opened_for a.cells a.volts) left c.put_battery.ensures (c.new-battery.ensures ∙ ap opened_of pack),
-    )
+    let pack = c.for_pack.ensures ∙ ap (for_pack_of a.cells) c.from_bits.ensures in
+    record {
+      answer = room a.numbers.now left;
+      stored = put_stored a.numbers.now (opened_for a.cells a.volts) left c.put_battery.ensures (c.new-battery.ensures ∙ ap opened_of pack);
+    }

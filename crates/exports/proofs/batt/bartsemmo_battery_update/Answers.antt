@@ -4,14 +4,14 @@ use Rattle.exports.specs.Batt.{short_number, stored_of, update_from_of}
 use borrow.Author.Rules.{rules}
 use Rattle.exports.proofs.batt.bartsemmo_battery_update.Goals as goal
 
--- CLAUSES answer stored
 pub returns-then-numbers-lt-SIZE : goal.returns-then-numbers-lt-SIZE
 unfolding short_number stored_of
-returns-then-numbers-lt-SIZE c = (simp (lt-ltb _ _ c.if-numbers-lt-SIZE.true), simp (lt-ltb _ _ c.if-numbers-lt-SIZE.true))
+returns-then-numbers-lt-SIZE c = record { answer = simp (lt-ltb _ _ c.if-numbers-lt-SIZE.true); stored = simp (lt-ltb _ _ c.if-numbers-lt-SIZE.true) }
 
--- CLAUSES answer stored
 pub returns : goal.returns
-returns c = let l = c.before.before.before.before.before.before.before.before.args.numbers.now in (
-      room l c.if1.false,
-      put_stored l (update_from_of c.before.before.before.before.before.before.before.before.args.numbers.now c.before.before.before.before.before.before.before.before.args.dt c.before.before.before.before.before.before.before.before.args.kind c.before.before.before.before.before.before.before.before.args.volts c.before.before.before.before.before.before.before.before.args.amps) c.if1.false c.put_battery.ensures c.update_from-battery.ensures,
-    )
+returns c = let a = c.args in
+    let left = c.if-numbers-lt-SIZE.false in
+    record {
+      answer = room a.numbers.now left;
+      stored = put_stored a.numbers.now (update_from_of a.numbers.now a.dt a.kind a.volts a.amps) left c.put_battery.ensures c.update_from-battery.ensures;
+    }

@@ -1,5 +1,4 @@
 use Rattle.falcon_core.specs.Calls.{answer_of}
-use borrow.Author.Rules.{rules}
 use Rattle.falcon_core.proofs.calls.answer_of.Goals as goal
 
 pub returns : goal.returns

@@ -8,7 +8,6 @@ use Rattle.relay_preflight.specs.declared.TableVerdict.{TableVerdict}
 use Rattle.relay_preflight.specs.Verdict.{first_blocker_of}
 use Rattle.falcon_failsafe.specs.declared.flight.FlightSupervisor.{FlightSupervisor}
 use Rattle.falcon_core.specs.Calls.{allowed_of, commanded_by}
-use borrow.Author.Rules.{rules}
 use Rattle.falcon_core.proofs.calls.commanded.Goals as goal
 
 -- the facts of the calls, put together
@@ -40,7 +39,7 @@ returns c = joined
     c.args.f
     c.args.ev
     c.args.level
-    c.args.throttle-low
+    c.args.throttle_low
     c.arm_check_table.ensures
     c.allowed.ensures
     c.on-after.ensures

@@ -1,5 +1,4 @@
 use Rattle.falcon_core.specs.Calls.{flight_accepted_of}
-use borrow.Author.Rules.{rules}
 use Rattle.falcon_core.proofs.calls.flight_accepted.Goals as goal
 
 pub returns : goal.returns

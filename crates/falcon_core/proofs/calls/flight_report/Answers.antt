@@ -1,7 +1,6 @@
 use mathlib.Core.Path.{sym, ◌∙◌}
 use Rattle.falcon_core.specs.Calls.{reports, no_legs}
 use Rattle.falcon_core.proofs.FlightCalls.{flight_unsequenced, flight_reported}
-use borrow.Author.Rules.{rules}
 use Rattle.falcon_core.proofs.calls.flight_report.Goals as goal
 
 pub returns-then-refusal-ne-ACCEPTED : goal.returns-then-refusal-ne-ACCEPTED

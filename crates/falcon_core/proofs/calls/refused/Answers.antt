@@ -1,5 +1,4 @@
 use Rattle.falcon_core.specs.Calls.{refused_of}
-use borrow.Author.Rules.{rules}
 use Rattle.falcon_core.proofs.calls.refused.Goals as goal
 
 pub returns : goal.returns

@@ -1,6 +1,5 @@
 use mathlib.Core.Path.{sym, ◌∙◌}
 use Rattle.falcon_core.proofs.Answers.{told_refused, told_accepted}
-use borrow.Author.Rules.{rules}
 use Rattle.falcon_core.proofs.calls.told.Goals as goal
 
 pub returns-then-refusal-ne-ACCEPTED : goal.returns-then-refusal-ne-ACCEPTED

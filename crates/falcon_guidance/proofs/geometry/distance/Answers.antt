@@ -1,5 +1,4 @@
 use Rattle.falcon_guidance.specs.Geometry.{distance_of}
-use borrow.Author.Rules.{rules}
 use Rattle.falcon_guidance.proofs.geometry.distance.Goals as goal
 
 pub returns : goal.returns

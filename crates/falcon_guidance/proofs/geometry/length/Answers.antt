@@ -1,5 +1,4 @@
 use Rattle.falcon_guidance.specs.Geometry.{length_of}
-use borrow.Author.Rules.{rules}
 use Rattle.falcon_guidance.proofs.geometry.length.Goals as goal
 
 pub returns : goal.returns

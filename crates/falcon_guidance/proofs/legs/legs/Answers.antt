@@ -20,5 +20,5 @@ pub bounds-points-next_at : goal.bounds-points-next_at
 bounds-points-next_at c = place_at _ _ c.next_place-next_at.ensures
 
 pub returns : goal.returns
-returns c = let long : length c.args.t2 ≡ max_waypoints = search rules in
-    legs_are c.args.t2 long c.args.c c.args.m _ _ _ c.here_place-here_at.ensures c.next_place-next_at.ensures c.legs_from.ensures
+returns c = let long : length c.args.points ≡ max_waypoints = search rules in
+    legs_are c.args.points long c.args.c c.args.m _ _ _ c.here_place-here_at.ensures c.next_place-next_at.ensures c.legs_from.ensures

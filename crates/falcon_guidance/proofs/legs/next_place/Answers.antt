@@ -1,4 +1,3 @@
-use borrow.Author.Rules.{rules}
 use Rattle.falcon_guidance.proofs.legs.next_place.Goals as goal
 
 pub returns : goal.returns

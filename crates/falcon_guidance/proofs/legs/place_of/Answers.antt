@@ -1,6 +1,5 @@
 use borrow.Author.Tests.{lt-ltb, le-ltb}
 use Rattle.falcon_guidance.specs.Legs.{place_of}
-use borrow.Author.Rules.{rules}
 use Rattle.falcon_guidance.proofs.legs.place_of.Goals as goal
 
 pub returns-then-at-lt-MAX_WAYPOINTS : goal.returns-then-at-lt-MAX_WAYPOINTS

@@ -1,11 +1,8 @@
 -- After i turns the first i points are admissible; one that is not decides.
 use borrow.Author.Rules.{rules}
-use borrow.Author.Tests.{not-true, not-false}
 use native.Mathlib.Omega.{arith}
 use native.Mathlib.Numerals.{add-one}
-use mathlib.Core.Bool.{true}
 use mathlib.Core.Path.{◌≡◌, refl, sym, ◌∙◌}
-use Prim.Native.Nat.{◌≤◌, ◌-◌}
 use Rattle.falcon_guidance.specs.Mission.{all_admissible_of}
 use Rattle.falcon_guidance.proofs.Waypoints.{one_bad}
 use Rattle.falcon_guidance.proofs.mission.all_admissible.Goals as goal
@@ -17,7 +14,7 @@ loop-i-init c = (search rules, refl)
 pub returns-then-not-waypoint_admissible : goal.returns-then-not-waypoint_admissible
 returns-then-not-waypoint_admissible c = sym
     (one_bad _ _ c.loop-i.i _ c.loop-i-test.true
-    (simp c.point_at-p.ensures at (sym c.waypoint_admissible.ensures ∙ not-true c.waypoint_admissible.result c.if-not-waypoint_admissible.true-raw)))
+    (simp c.point_at-p.ensures at (sym c.waypoint_admissible.ensures ∙ c.if-not-waypoint_admissible.true)))
 
 pub loop-i-preserved : goal.loop-i-preserved
 unfolding all_admissible_of
@@ -26,7 +23,7 @@ loop-i-preserved c = (
   simp (
     add-one,
     c.loop-i.invariant.1,
-    simp c.point_at-p.ensures at (sym c.waypoint_admissible.ensures ∙ not-false c.waypoint_admissible.result c.if-not-waypoint_admissible.false-raw),
+    simp c.point_at-p.ensures at (sym c.waypoint_admissible.ensures ∙ c.if-not-waypoint_admissible.false),
   ),
 )
 

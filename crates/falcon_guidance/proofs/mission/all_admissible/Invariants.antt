@@ -1,13 +1,8 @@
 -- After i turns the first i points are admissible; one that is not decides.
-use borrow.Author.Rules.{rules}
-use borrow.Author.Tests.{not-true, not-false}
-use native.Mathlib.Omega.{arith}
-use native.Mathlib.Numerals.{add-one}
 use mathlib.Core.Bool.{true}
-use mathlib.Core.Path.{◌≡◌, refl, sym, ◌∙◌}
+use mathlib.Core.Path.{◌≡◌}
 use Prim.Native.Nat.{◌≤◌, ◌-◌}
 use Rattle.falcon_guidance.specs.Mission.{all_admissible_of}
-use Rattle.falcon_guidance.proofs.Waypoints.{one_bad}
 use Rattle.falcon_guidance.proofs.mission.all_admissible.Given as goal
 
 abbrev pub invariant-loop-i : goal.invariant-loop-i

@@ -1,5 +1,4 @@
 -- The points tried are at most the places.
-use borrow.Author.Rules.{rules}
 use native.Mathlib.Omega.{arith}
 use Rattle.falcon_guidance.specs.Mission.{loaded_of}
 use Rattle.falcon_guidance.proofs.Waypoints.{tried_places}

@@ -1,4 +1,3 @@
-use borrow.Author.Rules.{rules}
 use Rattle.falcon_guidance.proofs.mission.no_points.Goals as goal
 
 pub returns : goal.returns

@@ -1,6 +1,5 @@
 use mathlib.Core.Path.{refl}
 use Rattle.falcon_guidance.specs.Mission.{point_at_of}
-use native.Mathlib.Omega.{arith}
 use Rattle.falcon_guidance.proofs.mission.point_at.Goals as goal
 
 pub returns : goal.returns

@@ -1,5 +1,4 @@
 -- The points tried are lent.
-use borrow.Author.Rules.{rules}
 use native.Mathlib.Omega.{arith}
 use Rattle.falcon_guidance.proofs.Waypoints.{tried_lent}
 use Rattle.falcon_guidance.proofs.mission.tried_admissible.Goals as goal

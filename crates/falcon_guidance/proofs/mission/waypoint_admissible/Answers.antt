@@ -1,5 +1,4 @@
 use Rattle.falcon_guidance.specs.Mission.{waypoint_admissible_of}
-use borrow.Author.Rules.{rules}
 use Rattle.falcon_guidance.proofs.mission.waypoint_admissible.Goals as goal
 
 pub returns : goal.returns

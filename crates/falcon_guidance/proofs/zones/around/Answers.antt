@@ -1,5 +1,4 @@
 use Rattle.falcon_guidance.specs.Zones.{around_of}
-use borrow.Author.Rules.{rules}
 use Rattle.falcon_guidance.proofs.zones.around.Goals as goal
 
 pub returns-then-threatens : goal.returns-then-threatens

@@ -3,7 +3,7 @@ use borrow.Author.Rules.{rules}
 use native.Mathlib.Omega.{arith}
 use native.Mathlib.Numerals.{add-one}
 use mathlib.Core.Path.{◌≡◌, refl}
-use Prim.Native.Nat.{ℕ, ◌+◌, ◌≤◌, ◌-◌, min}
+use Prim.Native.Nat.{ℕ, ◌+◌, min}
 use lib.ListN.{get_or}
 use Rattle.falcon_guidance.specs.declared.state.Horizontal.{Horizontal}
 use Rattle.falcon_guidance.specs.declared.state.Point.{Point}
@@ -27,7 +27,7 @@ unfolding around_all_of
 further p g zs start i e h = simp (add-one, h, e)
 
 pub loop-i-preserved : goal.loop-i-preserved
-loop-i-preserved c = (omega arith, further c.args.p c.goal_from-g.result c.args.t1 (record { x = c.args.sp.x; y = c.args.sp.y }) c.loop-i.i c.loop-i.invariant.1 c.around-out.ensures)
+loop-i-preserved c = (omega arith, further c.args.p c.goal_from-g.result c.args.zs (record { x = c.args.sp.x; y = c.args.sp.y }) c.loop-i.i c.loop-i.invariant.1 c.around-out.ensures)
 
 -- the facts after the last zone, put together
 joined :
@@ -42,7 +42,7 @@ joined zs p sp g n i out = simp (out, i, n, g)
 
 pub returns : goal.returns
 returns c = joined
-    c.args.t1
+    c.args.zs
     c.args.p
     c.args.sp
     c.goal_from-g.ensures

@@ -1,16 +1,7 @@
 -- After i turns the setpoint is deflected around the first i zones.
-use borrow.Author.Rules.{rules}
-use native.Mathlib.Omega.{arith}
-use native.Mathlib.Numerals.{add-one}
-use mathlib.Core.Path.{◌≡◌, refl}
-use Prim.Native.Nat.{ℕ, ◌+◌, ◌≤◌, ◌-◌, min}
-use lib.ListN.{get_or}
-use Rattle.falcon_guidance.specs.declared.state.Horizontal.{Horizontal}
-use Rattle.falcon_guidance.specs.declared.state.Point.{Point}
-use Rattle.falcon_guidance.specs.declared.state.Zones.{Zones}
-use Rattle.falcon_guidance.specs.declared.zones.Goal.{Goal}
-use Rattle.falcon_guidance.specs.State.{max_keepout_zones}
-use Rattle.falcon_guidance.specs.Zones.{no_place, goal_of, around_of, around_all_of, avoid_of}
+use mathlib.Core.Path.{◌≡◌}
+use Prim.Native.Nat.{◌≤◌, ◌-◌}
+use Rattle.falcon_guidance.specs.Zones.{around_all_of}
 use Rattle.falcon_guidance.proofs.zones.avoid.Given as goal
 
 abbrev pub invariant-loop-i : goal.invariant-loop-i

@@ -1,5 +1,4 @@
 use Rattle.falcon_guidance.specs.Zones.{deflected_of}
-use borrow.Author.Rules.{rules}
 use Rattle.falcon_guidance.proofs.zones.deflected.Goals as goal
 
 pub returns : goal.returns

@@ -1,5 +1,4 @@
 -- The zones kept are at most a quarter of the numbers lent, and at most the places.
-use borrow.Author.Rules.{rules}
 use native.Mathlib.Omega.{arith}
 use Rattle.falcon_guidance.specs.Zones.{loaded_zones_of}
 use Rattle.falcon_guidance.proofs.KeptZones.{kept_lent, kept_places}

@@ -3,7 +3,6 @@ use borrow.Author.Rules.{rules}
 use native.Mathlib.Omega.{arith}
 use native.Mathlib.Numerals.{add-one}
 use mathlib.Core.Path.{◌≡◌}
-use Prim.Native.Nat.{◌≤◌, ◌-◌}
 use Rattle.falcon_guidance.specs.Zones.{stored_zones_of}
 use Rattle.falcon_guidance.proofs.zones.stored.Goals as goal
 

@@ -1,7 +1,4 @@
 -- After i turns the first i zones are stored.
-use borrow.Author.Rules.{rules}
-use native.Mathlib.Omega.{arith}
-use native.Mathlib.Numerals.{add-one}
 use mathlib.Core.Path.{◌≡◌}
 use Prim.Native.Nat.{◌≤◌, ◌-◌}
 use Rattle.falcon_guidance.specs.Zones.{stored_zones_of}

@@ -1,7 +1,6 @@
 -- `FailsafeAction::bump` meets its contract, by what `graver` ensures.
 -- Assumes nothing.
 use Rattle.relay_fsafe.specs.Fsafe.{bump_of}
-use borrow.Author.Rules.{rules}
 use Rattle.relay_fsafe.proofs.FailsafeAction.bump.Goals as goal
 
 pub returns-then-raised : goal.returns-then-raised

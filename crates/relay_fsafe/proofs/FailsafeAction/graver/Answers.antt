@@ -2,7 +2,6 @@
 -- Assumes nothing.
 use Rattle.relay_fsafe.specs.Fsafe.{graver_of}
 use borrow.Author.Tests.{lt-ltb, le-ltb}
-use borrow.Author.Rules.{rules}
 use Rattle.relay_fsafe.proofs.FailsafeAction.graver.Goals as goal
 
 pub returns-then-severity : goal.returns-then-severity

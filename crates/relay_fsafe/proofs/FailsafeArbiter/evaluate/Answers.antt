@@ -1,7 +1,6 @@
 -- `FailsafeArbiter::evaluate` meets its contract, by what `policy_action` and `graver` ensure.
 -- Assumes nothing.
 use Rattle.relay_fsafe.specs.Fsafe.{evaluate_of}
-use borrow.Author.Rules.{rules}
 use Rattle.relay_fsafe.proofs.FailsafeArbiter.evaluate.Goals as goal
 
 pub returns : goal.returns

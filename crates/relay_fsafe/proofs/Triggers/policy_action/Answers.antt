@@ -1,7 +1,6 @@
 -- `Triggers::policy_action` meets its contract, by what `bump` ensures at each trigger.
 -- Assumes nothing.
 use Rattle.relay_fsafe.specs.Fsafe.{policy_action_of}
-use borrow.Author.Rules.{rules}
 use Rattle.relay_fsafe.proofs.Triggers.policy_action.Goals as goal
 
 pub returns : goal.returns

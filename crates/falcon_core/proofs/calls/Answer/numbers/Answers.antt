@@ -12,25 +12,26 @@ use Rattle.falcon_flight.specs.declared.tick.TickAnswer.TheVariants.{MotorsOff, 
 use Rattle.falcon_core.specs.declared.calls.Answer.{Answer}
 use Rattle.falcon_core.specs.declared.calls.Output.TheVariants.{Nothing, Ticks, Totals, Record}
 use Rattle.falcon_core.specs.Calls.{numbers_of}
-use borrow.Author.Rules.{rules}
 use Rattle.falcon_core.proofs.calls.Answer.numbers.Goals as goal
 
-pub to_bits-requires-in-Setpoint-2 : goal.to_bits-requires-in-Setpoint-2
-to_bits-requires-in-Setpoint-2 c = search rules
 module _ (a : Answer) {m b : ℕ} (mode : m ≡ mode_number a.mode) (verdict : b ≡ blocker_number a.verdict) where
   nothing : a.output ≡ Nothing → (a.refusal ∷ m ∷ 0 ∷ 0 ∷ 0 ∷ 0 ∷ 0 ∷ 0 ∷ a.outstanding ∷ b ∷ []) ≡ numbers_of a
   unfolding numbers_of
   nothing output = simp (output, mode, verdict)
+
   totals : a.output ≡ Totals → (a.refusal ∷ m ∷ 0 ∷ 0 ∷ 0 ∷ 0 ∷ 0 ∷ 0 ∷ a.outstanding ∷ b ∷ []) ≡ numbers_of a
   unfolding numbers_of
   totals output = simp (output, mode, verdict)
-  record-told : a.output ≡ Record → (a.refusal ∷ m ∷ 0 ∷ 0 ∷ 0 ∷ 0 ∷ 0 ∷ 0 ∷ a.outstanding ∷ b ∷ []) ≡ numbers_of a
+
+  record_told : a.output ≡ Record → (a.refusal ∷ m ∷ 0 ∷ 0 ∷ 0 ∷ 0 ∷ 0 ∷ 0 ∷ a.outstanding ∷ b ∷ []) ≡ numbers_of a
   unfolding numbers_of
-  record-told output = simp (output, mode, verdict)
-  motors-off :
+  record_told output = simp (output, mode, verdict)
+
+  motors_off :
       (t : TickAnswer) → a.output ≡ Ticks t → t ≡ MotorsOff → (a.refusal ∷ m ∷ 0 ∷ 1 ∷ 0 ∷ 0 ∷ 0 ∷ 0 ∷ a.outstanding ∷ b ∷ []) ≡ numbers_of a
   unfolding numbers_of
-  motors-off t output off = simp (output, off, mode, verdict)
+  motors_off t output off = simp (output, off, mode, verdict)
+
   setpoint :
       (t : TickAnswer) (p : Point) (landing rearm : Bool) {l r x y z : ℕ}
       → a.output ≡ Ticks t
@@ -52,10 +53,10 @@ pub returns-in-Totals : goal.returns-in-Totals
 returns-in-Totals c = totals c.args.self c.number-m.ensures c.number-b.ensures c.in-Totals.is
 
 pub returns-in-Record : goal.returns-in-Record
-returns-in-Record c = record-told c.args.self c.number-m.ensures c.number-b.ensures c.in-Record.is
+returns-in-Record c = record_told c.args.self c.number-m.ensures c.number-b.ensures c.in-Record.is
 
 pub returns-in-MotorsOff : goal.returns-in-MotorsOff
-returns-in-MotorsOff c = motors-off c.args.self c.number-m.ensures c.number-b.ensures _ c.in-Ticks.is c.in-MotorsOff.is
+returns-in-MotorsOff c = motors_off c.args.self c.number-m.ensures c.number-b.ensures _ c.in-Ticks.is c.in-MotorsOff.is
 
 pub returns-in-Setpoint : goal.returns-in-Setpoint
 returns-in-Setpoint c = setpoint c.args.self c.number-m.ensures c.number-b.ensures _ _ _ _ c.in-Ticks.is c.in-Setpoint.is c.flag_number.ensures c.flag_number-in-Setpoint.ensures c.to_bits.ensures c.to_bits-in-Setpoint.ensures c.to_bits-in-Setpoint-2.ensures

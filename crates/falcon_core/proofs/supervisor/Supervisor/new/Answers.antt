@@ -1,5 +1,4 @@
 use Rattle.falcon_core.specs.Supervisor.{unopened}
-use borrow.Author.Rules.{rules}
 use Rattle.falcon_core.proofs.supervisor.Supervisor.new.Goals as goal
 
 pub returns : goal.returns

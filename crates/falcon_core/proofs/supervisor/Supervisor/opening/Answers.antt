@@ -1,7 +1,6 @@
 use mathlib.Core.Path.{refl, ◌∙◌}
 use Rattle.falcon_core.specs.Calls.{opens}
 use Rattle.falcon_core.proofs.Answers.{masks_refused, opening_accepted}
-use borrow.Author.Rules.{rules}
 use Rattle.falcon_core.proofs.supervisor.Supervisor.opening.Goals as goal
 
 pub returns-then-o : goal.returns-then-o

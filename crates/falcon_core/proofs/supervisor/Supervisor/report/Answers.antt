@@ -1,6 +1,5 @@
 use mathlib.Core.Path.{◌∙◌}
 use Rattle.falcon_core.proofs.FlightCalls.{report_beside}
-use borrow.Author.Rules.{rules}
 use Rattle.falcon_core.proofs.supervisor.Supervisor.report.Goals as goal
 
 pub returns : goal.returns

@@ -1,6 +1,5 @@
 use mathlib.Core.Path.{◌∙◌}
 use Rattle.falcon_core.proofs.Answers.{tells_state, told_step}
-use borrow.Author.Rules.{rules}
 use Rattle.falcon_core.proofs.supervisor.Supervisor.save.Goals as goal
 
 pub returns : goal.returns

@@ -1,17 +1,13 @@
 -- Each return has the refusal that fits, or what is loaded.
-use mathlib.Core.Path.{refl, sym, ◌∙◌}
+use mathlib.Core.Path.{sym, ◌∙◌}
 use Rattle.falcon_core.proofs.Answers.{zones_miscounted, zones_unsequenced, zones_accepted}
-use borrow.Author.Rules.{rules}
 use Rattle.falcon_core.proofs.supervisor.Supervisor.set_keepout_zones.Goals as goal
 
--- CLAUSES answered unchanged
-pub returns-then-lent-ne0 : goal.returns-then-lent-ne0
-returns-then-lent-ne0 c = (c.refused.ensures ∙ zones_miscounted c.args.self c.args.lent.now c.if-lent-ne0.true, refl)
+pub returns-then-lent-ne0-clause-answered : goal.returns-then-lent-ne0-clause-answered
+returns-then-lent-ne0-clause-answered c = c.refused.ensures ∙ zones_miscounted c.args.self c.args.lent.now c.if-lent-ne0.true
 
--- CLAUSES answered unchanged
-pub returns-then-refusal-ne-ACCEPTED : goal.returns-then-refusal-ne-ACCEPTED
-returns-then-refusal-ne-ACCEPTED c = (c.refused-then-refusal-ne-ACCEPTED.ensures ∙ zones_unsequenced c.args.self c.args.lent.now _ c.if-lent-ne0.false c.sequence_refusal-refusal.ensures c.if-refusal-ne-ACCEPTED.true, refl)
+pub returns-then-refusal-ne-ACCEPTED-clause-answered : goal.returns-then-refusal-ne-ACCEPTED-clause-answered
+returns-then-refusal-ne-ACCEPTED-clause-answered c = c.refused-then-refusal-ne-ACCEPTED.ensures ∙ zones_unsequenced c.args.self c.args.lent.now _ c.if-lent-ne0.false c.sequence_refusal-refusal.ensures c.if-refusal-ne-ACCEPTED.true
 
--- CLAUSES answered unchanged
-pub returns : goal.returns
-returns c = (c.accepted.ensures ∙ zones_accepted c.args.self c.args.lent.now _ c.loaded_zones-loaded.ensures c.if-lent-ne0.false (sym c.sequence_refusal-refusal.ensures ∙ c.if-refusal-ne-ACCEPTED.false), refl)
+pub returns-clause-answered : goal.returns-clause-answered
+returns-clause-answered c = c.accepted.ensures ∙ zones_accepted c.args.self c.args.lent.now _ c.loaded_zones-loaded.ensures c.if-lent-ne0.false (sym c.sequence_refusal-refusal.ensures ∙ c.if-refusal-ne-ACCEPTED.false)

@@ -1,6 +1,5 @@
 use mathlib.Core.Path.{◌∙◌}
 use Rattle.falcon_core.proofs.Answers.{tells_totals, told_step}
-use borrow.Author.Rules.{rules}
 use Rattle.falcon_core.proofs.supervisor.Supervisor.totals.Goals as goal
 
 pub returns : goal.returns
