@@ -3,7 +3,7 @@ use mathlib.Core.Path.{◌≡◌, refl, ap, ◌∙◌}
 use mathlib.Core.Bool.{Bool, true, false, cond, not, ◌&&◌, ◌||◌}
 use Prim.Native.Nat.{ℕ, zero, suc, ◌+◌, ◌-◌, ◌*◌, ◌/◌, ◌%◌, ◌^◌, ◌<◌, min, max}
 use native.Mathlib.Nat.{mod-lt, one-mul, pow-suc, div-one, zero-div, not-suc-le-zero, lt_of_le_of_lt}
-use native.Mathlib.Numerals.{one_add}
+use native.Mathlib.Numerals.{one-add}
 use native.Mathlib.Omega.{arith}
 use lib.Dec.{eqb, eqb-zero-suc, eqb-suc-zero, eqb-suc-suc, lit<}
 use lib.Pow.{pow-lt, shl_exact, shr-shr}
@@ -18,7 +18,7 @@ bit_low m = simp div-one
 -- halving moves every bit down by one
 pub bit_half : (m k : ℕ) → bit_of m (suc k) ≡ bit_of (m / 2) k
 unfolding bit_of
-bit_half m k = simp (shr-shr m 1 k, one_add)
+bit_half m k = simp (shr-shr m 1 k, one-add)
 
 pub bit_zero : (k : ℕ) → bit_of 0 k ≡ false
 unfolding bit_of

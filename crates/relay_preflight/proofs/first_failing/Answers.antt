@@ -1,10 +1,8 @@
 -- `first_failing` meets its contract. The loop's invariant: the first failing check of those that are left is the first of all.
 -- The measure is how many are left. Assumes nothing.
 use mathlib.Core.Path.{◌≡◌, refl, sym, ◌∙◌}
-use Prim.Native.Nat.{◌≤◌, ◌-◌, zero-le}
+use Prim.Native.Nat.{zero-le}
 use native.Mathlib.Omega.{arith}
-use borrow.Author.Rules.{rules}
-use lib.ListN.{drop}
 use Rattle.relay_preflight.specs.Check.{all_checks, check_count}
 use Rattle.relay_preflight.specs.Table.{fails_of}
 use Rattle.relay_preflight.specs.Verdict.{first_in, first_blocker_of}

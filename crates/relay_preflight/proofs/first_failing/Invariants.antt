@@ -1,15 +1,10 @@
 -- `first_failing` meets its contract. The loop's invariant: the first failing check of those that are left is the first of all.
 -- The measure is how many are left. Assumes nothing.
-use mathlib.Core.Path.{◌≡◌, refl, sym, ◌∙◌}
-use Prim.Native.Nat.{◌≤◌, ◌-◌, zero-le}
-use native.Mathlib.Omega.{arith}
-use borrow.Author.Rules.{rules}
+use mathlib.Core.Path.{◌≡◌}
+use Prim.Native.Nat.{◌≤◌, ◌-◌}
 use lib.ListN.{drop}
 use Rattle.relay_preflight.specs.Check.{all_checks, check_count}
-use Rattle.relay_preflight.specs.Table.{fails_of}
 use Rattle.relay_preflight.specs.Verdict.{first_in, first_blocker_of}
-use Rattle.relay_preflight.specs.declared.CheckId.TheVariants.{SensorsHealthy}
-use Rattle.relay_preflight.proofs.Walk.{here, next}
 use Rattle.relay_preflight.proofs.first_failing.Given as goal
 
 abbrev pub invariant-loop-i : goal.invariant-loop-i

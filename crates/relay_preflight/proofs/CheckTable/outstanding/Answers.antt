@@ -1,5 +1,4 @@
 -- `CheckTable::outstanding` meets its contract. Assumes nothing.
-use borrow.Author.Rules.{rules}
 use Rattle.relay_preflight.specs.Table.{outstanding_of}
 use Rattle.relay_preflight.proofs.CheckTable.outstanding.Goals as goal
 

@@ -1,5 +1,4 @@
 -- `CheckTable::set` meets its contract. Assumes nothing.
-use borrow.Author.Rules.{rules}
 use Rattle.relay_preflight.specs.Table.{set_of}
 use Rattle.relay_preflight.proofs.CheckTable.set.Goals as goal
 
