@@ -1,5 +1,4 @@
 use Rattle.falcon_hold.specs.Hold.{braked_of}
-use borrow.Author.Rules.{rules}
 use Rattle.falcon_hold.proofs.hold.braked.Goals as goal
 
 pub returns-then-brake_rest_s-brake_s : goal.returns-then-brake_rest_s-brake_s

@@ -1,5 +1,4 @@
 use Rattle.falcon_hold.specs.Hold.{entered_of}
-use borrow.Author.Rules.{rules}
 use Rattle.falcon_hold.proofs.hold.entered.Goals as goal
 
 pub returns-then-h : goal.returns-then-h

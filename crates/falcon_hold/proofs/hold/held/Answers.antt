@@ -1,5 +1,4 @@
 use Rattle.falcon_hold.specs.Hold.{held_of}
-use borrow.Author.Rules.{rules}
 use Rattle.falcon_hold.proofs.hold.held.Goals as goal
 
 pub returns-then-holds : goal.returns-then-holds

@@ -1,5 +1,4 @@
 use Rattle.falcon_hold.specs.Hold.{horiz_speed_of}
-use borrow.Author.Rules.{rules}
 use Rattle.falcon_hold.proofs.hold.horiz_speed.Goals as goal
 
 pub returns : goal.returns

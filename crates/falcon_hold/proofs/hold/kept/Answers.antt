@@ -1,5 +1,4 @@
 use Rattle.falcon_hold.specs.Hold.{kept_of}
-use borrow.Author.Rules.{rules}
 use Rattle.falcon_hold.proofs.hold.kept.Goals as goal
 
 pub returns-then-e : goal.returns-then-e

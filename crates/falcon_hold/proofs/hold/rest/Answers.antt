@@ -1,5 +1,4 @@
 use Rattle.falcon_hold.specs.Hold.{rest_of}
-use borrow.Author.Rules.{rules}
 use Rattle.falcon_hold.proofs.hold.rest.Goals as goal
 
 pub returns-then-horiz_speed : goal.returns-then-horiz_speed

@@ -4,7 +4,6 @@ use Rattle.requests.specs.ByLine.{number_places}
 use borrow.Author.Rules.{rules}
 use Rattle.requests.proofs.parse.asked.Goals as goal
 
--- CLAUSES says numbers_len numbers_after
 pub returns : goal.returns
-returns c = let wide : length c.asked_into.new.1.0 ≡ number_places = search rules in
-    (c.asked_into.ensures.0, (wide, c.asked_into.ensures.1))
+returns c = let wide : length c.asked_into.new.numbers ≡ number_places = search rules in
+    record { says = c.asked_into.ensures.says; numbers_len = wide; numbers_after = c.asked_into.ensures.numbers_after }

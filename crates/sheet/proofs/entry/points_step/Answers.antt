@@ -10,5 +10,5 @@ pub slice_bounds-set_mission_waypoints-end : goal.slice_bounds-set_mission_waypo
 slice_bounds-set_mission_waypoints-end c = sym (length-take-le _ _ c.list_floats-lent.ensures.0)
 
 pub returns : goal.returns
-returns c = c.set_mission_waypoints.ensures.0
+returns c = c.set_mission_waypoints.ensures.answered
     ∙ ap (λ (l : List Float). step_of c.args.s (plans (points l))) c.list_floats-lent.ensures.1

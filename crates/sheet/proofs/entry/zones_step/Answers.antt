@@ -10,5 +10,5 @@ pub slice_bounds-set_keepout_zones-end : goal.slice_bounds-set_keepout_zones-end
 slice_bounds-set_keepout_zones-end c = sym (length-take-le _ _ c.list_floats-lent.ensures.0)
 
 pub returns : goal.returns
-returns c = c.set_keepout_zones.ensures.0
+returns c = c.set_keepout_zones.ensures.answered
     ∙ ap (λ (l : List Float). step_of c.args.s (plans (zones l))) c.list_floats-lent.ensures.1

@@ -25,7 +25,6 @@ use Rattle.sheet.proofs.Replies.{line_fits, reply_room, reply_line_lem, reply_lo
 use Rattle.sheet.proofs.Entries.{state_of, replied_as, replied_flight}
 use Rattle.falcon_guidance.proofs.LegPlaces.{place_at, legs_are}
 use borrow.Author.Rules.{rules}
-use Rattle.sheet.proofs.many.answer_lines.Goals.{Joined-kind}
 use Rattle.sheet.proofs.many.answer_lines.Given as goal
 
 abbrev pub invariant-loop-end : goal.invariant-loop-end
