@@ -15,7 +15,6 @@ use Rattle.falcon_failsafe.proofs.Events.{mode_if}
 use Rattle.falcon_flight.specs.declared.milestone.Reached.{Reached}
 use Rattle.falcon_flight.specs.Milestone.{arrived_at, milestone_by_of}
 use Rattle.falcon_flight.proofs.Milestones.{mode_unless}
-use borrow.Author.Rules.{rules}
 use Rattle.falcon_flight.proofs.milestone.milestone_by.Goals as goal
 
 -- the facts of the calls put together, by the mode
