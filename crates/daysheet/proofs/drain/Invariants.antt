@@ -11,7 +11,7 @@ use Rattle.daysheet.proofs.Draining.{Drains, written_fits, lines_most, used_fits
 use Rattle.daysheet.proofs.drain.Given as goal
 
 abbrev pub invariant-loop-progress : goal.invariant-loop-progress
-invariant-loop-progress l = Drains l.initial.supervisor l.input l.supervisor l.used l.lines l.out l.progress × (length l.out ≡ length l.fn.out)
+invariant-loop-progress l = Drains l.initial.supervisor l.input l.supervisor l.used l.lines l.out l.progress × (length l.out ≡ length l.initial.out)
 
 abbrev pub decreases-loop-progress : goal.decreases-loop-progress
 decreases-loop-progress l = length (whole l.input) - l.lines

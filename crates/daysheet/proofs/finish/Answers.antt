@@ -18,10 +18,10 @@ slice_bounds-answer_lines-end-2 c = sym (length-take-le _ _ (simp length-set (om
 
 pub write-requires : goal.write-requires
 write-requires c = let call = c.answer_lines-last in
-    omega (arith, call.auto.out, progress_written _ _ _ call.result call.ensures.value)
+    omega (arith, call.auto.out, progress_written _ _ _ call.result call.ensures.progress)
 
 pub returns : goal.returns
 returns c =
     let a = c.args in
     let pre = c.requires in
-    finish_one a.s a.buf.now a.out.now a.have pre.have_in_bounds.0 pre.buf_value c.if-have-eq0.false _ pre.have_in_bounds.1 c.answer_lines-last.ensures.out_after
+    finish_one a.s a.buf.now a.out.now a.have pre.have_in_bounds.0 pre.buf_value c.if-have-eq0.false _ pre.have_in_bounds.1 c.answer_lines-last.ensures.buffer
