@@ -1,5 +1,5 @@
 -- The tick that is given two waypoints is the tick over the whole list: where the leg moves on, the next one is the active leg's.
-use Prim.Native.Nat.{ℕ, ◌+◌}
+use Prim.Native.Nat.{◌+◌}
 use native.Mathlib.Omega.{arith}
 use borrow.Author.Tests.{eq-eqb, ne_eqb}
 use mathlib.Core.Bool.{Bool, true, false, cond, ◌&&◌}
@@ -16,7 +16,6 @@ use Rattle.falcon_guidance.specs.declared.state.Tick.{Tick}
 use Rattle.falcon_guidance.specs.Mission.{leg_waypoint_of, current_waypoint_of, legs_of}
 use Rattle.falcon_failsafe.specs.declared.flight.FlightSupervisor.{FlightSupervisor}
 use Rattle.falcon_failsafe.specs.Failsafe.{cleared_of, breached_of, runaway_of, wind_of}
-use Rattle.falcon_flight.specs.declared.tick.Ticked.{Ticked}
 use Rattle.falcon_flight.specs.Milestone.{arrived_of, more_of, leg_of, milestone_of}
 use Rattle.falcon_flight.specs.Tick.{checked_of, powered_of, telemetry_of, sensed_of, after_breach, after_runaway, after_wind, after_milestone}
 use Rattle.falcon_flight.specs.Tick.{holding_of, waypoint_after_of, answered_of, ended_of, tick_of}

@@ -1,7 +1,6 @@
 use mathlib.Core.Path.{refl}
 use Rattle.relay_batt.specs.Numbers.{estimator_numbers_of, state_numbers_of, silence_numbers_of, battery_numbers_of}
 use Rattle.columns.proofs.Writing.{put_three}
-use borrow.Author.Rules.{rules}
 use Rattle.falcon_record.proofs.battery_numbers.Goals as goal
 
 pub returns : goal.returns

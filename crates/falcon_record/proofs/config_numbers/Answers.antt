@@ -1,5 +1,4 @@
 use Rattle.falcon_record.specs.Columns.{config_columns}
-use borrow.Author.Rules.{rules}
 use Rattle.falcon_record.proofs.config_numbers.Goals as goal
 
 pub returns : goal.returns

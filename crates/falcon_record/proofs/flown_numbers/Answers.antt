@@ -2,7 +2,6 @@ use mathlib.Core.Path.{refl}
 use Rattle.falcon_totals.specs.Totals.{totals_numbers}
 use Rattle.falcon_record.specs.Columns.{hold_columns, count_columns, use_columns}
 use Rattle.columns.proofs.Writing.{put_three}
-use borrow.Author.Rules.{rules}
 use Rattle.falcon_record.proofs.flown_numbers.Goals as goal
 
 pub returns : goal.returns

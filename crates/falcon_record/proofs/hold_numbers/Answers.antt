@@ -1,5 +1,4 @@
 use Rattle.falcon_record.specs.Columns.{hold_columns, count_columns}
-use borrow.Author.Rules.{rules}
 use Rattle.falcon_record.proofs.hold_numbers.Goals as goal
 
 pub returns : goal.returns

@@ -1,7 +1,6 @@
 use mathlib.Core.Path.{refl}
 use Rattle.falcon_record.specs.Columns.{config_columns, check_columns}
 use Rattle.columns.proofs.Writing.{put_three}
-use borrow.Author.Rules.{rules}
 use Rattle.falcon_record.proofs.opening_numbers.Goals as goal
 
 pub returns : goal.returns

@@ -1,6 +1,5 @@
 use Rattle.falcon_record.specs.Columns.{place_in}
 use borrow.Author.Tests.{lt-ltb, le-ltb}
-use borrow.Author.Rules.{rules}
 use Rattle.falcon_record.proofs.point_in.Goals as goal
 
 pub returns-then-i-count : goal.returns-then-i-count

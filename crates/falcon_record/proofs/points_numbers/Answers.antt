@@ -1,12 +1,10 @@
 -- After i turns the first i places are there.
-use Prim.Native.Nat.{◌-◌}
 use native.Mathlib.Numerals.{add-one}
 use mathlib.Core.Path.{refl, ap, ◌∙◌}
-use Rattle.falcon_guidance.specs.State.{origin, nowhere, point_numbers_of, max_waypoints}
-use Rattle.falcon_record.specs.Columns.{place_in, point_columns, points_columns}
-use Rattle.falcon_record.proofs.Stretch.{Stretched, stretch_first, stretch_next, stretches_all}
+use Rattle.falcon_guidance.specs.State.{point_numbers_of, max_waypoints}
+use Rattle.falcon_record.specs.Columns.{point_columns, points_columns}
+use Rattle.falcon_record.proofs.Stretch.{stretch_first, stretch_next, stretches_all}
 use Rattle.falcon_record.proofs.Lengths.{length_point}
-use borrow.Author.Rules.{rules}
 use Rattle.falcon_record.proofs.points_numbers.Goals as goal
 
 pub loop-i-init : goal.loop-i-init

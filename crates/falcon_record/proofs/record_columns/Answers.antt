@@ -5,7 +5,6 @@ use Rattle.falcon_record.specs.Form.{zone_width}
 use Rattle.falcon_record.specs.Saved.{written_form}
 use Rattle.falcon_record.proofs.Lengths.{length_scalars, length_points, length_zones}
 use Rattle.falcon_record.proofs.Saving.{columns_parts}
-use borrow.Author.Rules.{rules}
 use Rattle.falcon_record.proofs.record_columns.Goals as goal
 
 pub returns : goal.returns

@@ -3,7 +3,6 @@ use Rattle.falcon_totals.specs.Totals.{totals_numbers}
 use Rattle.falcon_record.specs.Columns.{config_columns, check_columns, hold_columns, count_columns, use_columns, scalar_columns}
 use Rattle.columns.proofs.Writing.{put_three}
 use Rattle.relay_batt.specs.Numbers.{estimator_numbers_of, state_numbers_of, silence_numbers_of, battery_numbers_of}
-use borrow.Author.Rules.{rules}
 use Rattle.falcon_record.proofs.scalar_numbers.Goals as goal
 
 pub returns : goal.returns

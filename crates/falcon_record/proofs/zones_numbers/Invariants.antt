@@ -1,14 +1,10 @@
 -- After i turns the first i places are there.
 use Prim.Native.Nat.{◌-◌}
-use native.Mathlib.Numerals.{add-one}
-use mathlib.Core.Path.{refl, ap, ◌∙◌}
 use mathlib.Core.Bool.{false}
 use Rattle.falcon_guidance.specs.State.{no_zone, zone_numbers_of, max_keepout_zones}
 use Rattle.falcon_guidance.specs.Zones.{no_place}
-use Rattle.falcon_record.specs.Columns.{place_in, zone_columns, zones_columns}
-use Rattle.falcon_record.proofs.Stretch.{Stretched, stretch_first, stretch_next, stretches_all}
-use Rattle.falcon_record.proofs.Lengths.{length_topped}
-use borrow.Author.Rules.{rules}
+use Rattle.falcon_record.specs.Columns.{place_in, zone_columns}
+use Rattle.falcon_record.proofs.Stretch.{Stretched}
 use Rattle.falcon_record.proofs.zones_numbers.Given as goal
 
 abbrev pub invariant-loop-i : goal.invariant-loop-i

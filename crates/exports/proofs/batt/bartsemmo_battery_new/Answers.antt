@@ -3,7 +3,6 @@ use Rattle.exports.proofs.Stored.{room, put_stored}
 use mathlib.Core.Path.{ap, ◌∙◌}
 use Rattle.relay_batt.specs.Battery.{opened_of}
 use Rattle.exports.specs.Batt.{short_number, stored_of, new_from}
-use borrow.Author.Rules.{rules}
 use Rattle.exports.proofs.batt.bartsemmo_battery_new.Goals as goal
 
 pub returns-then-numbers-lt-SIZE : goal.returns-then-numbers-lt-SIZE

@@ -5,7 +5,6 @@ use mathlib.Core.Path.{ap, ◌∙◌}
 use Rattle.relay_batt.specs.Config.{for_pack_of}
 use Rattle.relay_batt.specs.Battery.{opened_of}
 use Rattle.exports.specs.Batt.{short_number, stored_of, opened_for}
-use borrow.Author.Rules.{rules}
 use Rattle.exports.proofs.batt.bartsemmo_battery_opened.Goals as goal
 
 pub returns-then-numbers-lt-SIZE : goal.returns-then-numbers-lt-SIZE

@@ -1,7 +1,6 @@
 use borrow.Author.Tests.{lt-ltb}
 use Rattle.exports.proofs.Stored.{room, put_stored}
 use Rattle.exports.specs.Batt.{short_number, stored_of, update_from_of}
-use borrow.Author.Rules.{rules}
 use Rattle.exports.proofs.batt.bartsemmo_battery_update.Goals as goal
 
 pub returns-then-numbers-lt-SIZE : goal.returns-then-numbers-lt-SIZE

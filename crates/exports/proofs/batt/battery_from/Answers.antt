@@ -1,6 +1,5 @@
 use Rattle.relay_batt.specs.Numbers.{battery_by}
 use Rattle.exports.specs.Batt.{battery_from_of}
-use borrow.Author.Rules.{rules}
 use Rattle.exports.proofs.batt.battery_from.Goals as goal
 
 pub returns : goal.returns

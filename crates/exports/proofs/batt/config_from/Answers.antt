@@ -1,5 +1,4 @@
 use Rattle.exports.specs.Batt.{config_from_of}
-use borrow.Author.Rules.{rules}
 use Rattle.exports.proofs.batt.config_from.Goals as goal
 
 pub returns : goal.returns

@@ -1,6 +1,5 @@
 use Rattle.relay_batt.specs.Numbers.{estimator_by}
 use Rattle.exports.specs.Batt.{latch_from_of}
-use borrow.Author.Rules.{rules}
 use Rattle.exports.proofs.batt.estimator_from.Goals as goal
 
 pub returns : goal.returns

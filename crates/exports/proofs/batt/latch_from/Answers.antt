@@ -1,5 +1,4 @@
 use Rattle.exports.specs.Batt.{latch_from_of}
-use borrow.Author.Rules.{rules}
 use Rattle.exports.proofs.batt.latch_from.Goals as goal
 
 pub returns : goal.returns

@@ -1,5 +1,4 @@
 use Rattle.exports.proofs.Stored.{put_parts}
-use borrow.Author.Rules.{rules}
 use Rattle.exports.proofs.batt.put_battery.Goals as goal
 
 pub returns : goal.returns

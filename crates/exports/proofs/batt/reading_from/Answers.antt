@@ -1,6 +1,5 @@
 use Rattle.exports.specs.Batt.{reading_from_of}
 use borrow.Author.Tests.{eq-eqb, ne_eqb}
-use borrow.Author.Rules.{rules}
 use Rattle.exports.proofs.batt.reading_from.Goals as goal
 
 pub returns-then-kind-eq0 : goal.returns-then-kind-eq0

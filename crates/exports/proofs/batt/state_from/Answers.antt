@@ -1,5 +1,4 @@
 use Rattle.relay_batt.specs.Numbers.{state_by}
-use borrow.Author.Rules.{rules}
 use Rattle.exports.proofs.batt.state_from.Goals as goal
 
 pub returns : goal.returns

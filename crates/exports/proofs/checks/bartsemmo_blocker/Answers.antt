@@ -1,4 +1,3 @@
-use borrow.Author.Rules.{rules}
 use Rattle.exports.proofs.checks.bartsemmo_blocker.Goals as goal
 
 pub returns : goal.returns

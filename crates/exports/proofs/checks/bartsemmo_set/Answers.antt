@@ -1,6 +1,5 @@
 use Rattle.exports.specs.Checks.{set_masks}
 use borrow.Author.Tests.{lt-ltb, le-ltb}
-use borrow.Author.Rules.{rules}
 use Rattle.exports.proofs.checks.bartsemmo_set.Goals as goal
 
 pub returns-then-id-lt-CHECK_COUNT : goal.returns-then-id-lt-CHECK_COUNT

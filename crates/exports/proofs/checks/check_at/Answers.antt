@@ -1,6 +1,5 @@
 use mathlib.Core.Path.{refl}
 use Rattle.exports.specs.Checks.{check_at_of}
-use borrow.Author.Rules.{rules}
 use Rattle.exports.proofs.checks.check_at.Goals as goal
 
 pub returns : goal.returns

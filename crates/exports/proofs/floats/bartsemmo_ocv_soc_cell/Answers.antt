@@ -1,4 +1,3 @@
-use borrow.Author.Rules.{rules}
 use Rattle.exports.proofs.floats.bartsemmo_ocv_soc_cell.Goals as goal
 
 pub returns : goal.returns

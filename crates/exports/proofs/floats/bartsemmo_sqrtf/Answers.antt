@@ -1,5 +1,4 @@
 -- `bartsemmo_sqrtf`: what its three calls ensure, one after the other.
-use borrow.Author.Rules.{rules}
 use Rattle.exports.proofs.floats.bartsemmo_sqrtf.Goals as goal
 
 pub returns : goal.returns

@@ -1,6 +1,5 @@
 use Rattle.exports.specs.Modes.{airborne_number}
 use borrow.Author.Tests.{lt-ltb, le-ltb}
-use borrow.Author.Rules.{rules}
 use Rattle.exports.proofs.modes.bartsemmo_is_airborne.Goals as goal
 
 pub returns-then-mode-lt-COUNT : goal.returns-then-mode-lt-COUNT

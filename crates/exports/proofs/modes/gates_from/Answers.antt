@@ -1,5 +1,4 @@
 use Rattle.exports.specs.Modes.{gates_from_of}
-use borrow.Author.Rules.{rules}
 use Rattle.exports.proofs.modes.gates_from.Goals as goal
 
 pub returns : goal.returns

@@ -1,6 +1,5 @@
 use mathlib.Core.Path.{refl}
 use Rattle.relay_fsm.specs.Mode.{mode_at_of}
-use borrow.Author.Rules.{rules}
 use Rattle.exports.proofs.modes.mode_at.Goals as goal
 
 pub returns : goal.returns

@@ -1,4 +1,3 @@
-use borrow.Author.Rules.{rules}
 use Rattle.exports.proofs.modes.on_found.Goals as goal
 
 pub returns-in-Known : goal.returns-in-Known

@@ -1,4 +1,3 @@
-use borrow.Author.Rules.{rules}
 use Rattle.exports.proofs.numbers.is_one.Goals as goal
 
 pub returns : goal.returns

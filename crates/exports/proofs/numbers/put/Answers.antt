@@ -1,10 +1,8 @@
 -- `put`: what is passed of `part` is stored.
-use borrow.Author.Rules.{rules}
-use mathlib.Core.Path.{◌≡◌, refl, ap}
-use Prim.Native.Nat.{◌-◌, ◌≤◌}
+use mathlib.Core.Path.{refl, ap}
 use native.Mathlib.Omega.{arith}
-use lib.ListN.{length, take}
-use lib.Seq.{sets, length-sets}
+use lib.ListN.{length}
+use lib.Seq.{length-sets}
 use Rattle.exports.proofs.Sets.{put_next, put_all}
 use Rattle.exports.proofs.numbers.put.Goals as goal
 

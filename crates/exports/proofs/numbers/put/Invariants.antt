@@ -1,11 +1,8 @@
 -- `put`: what is passed of `part` is stored.
-use borrow.Author.Rules.{rules}
-use mathlib.Core.Path.{◌≡◌, refl, ap}
+use mathlib.Core.Path.{◌≡◌}
 use Prim.Native.Nat.{◌-◌, ◌≤◌}
-use native.Mathlib.Omega.{arith}
 use lib.ListN.{length, take}
-use lib.Seq.{sets, length-sets}
-use Rattle.exports.proofs.Sets.{put_next, put_all}
+use lib.Seq.{sets}
 use Rattle.exports.proofs.numbers.put.Given as goal
 
 abbrev pub invariant-loop-i : goal.invariant-loop-i

@@ -1,6 +1,5 @@
 use mathlib.Core.Path.{refl}
 use Rattle.exports.specs.Policy.{action_at_of}
-use borrow.Author.Rules.{rules}
 use Rattle.exports.proofs.policy.action_at.Goals as goal
 
 pub returns : goal.returns

@@ -1,6 +1,5 @@
 use Rattle.exports.specs.Policy.{evaluate_number}
 use borrow.Author.Tests.{lt-ltb, le-ltb}
-use borrow.Author.Rules.{rules}
 use Rattle.exports.proofs.policy.bartsemmo_evaluate.Goals as goal
 
 pub returns-then-latched-lt-COUNT : goal.returns-then-latched-lt-COUNT

@@ -1,5 +1,4 @@
 use Rattle.exports.specs.Policy.{policy_number}
-use borrow.Author.Rules.{rules}
 use Rattle.exports.proofs.policy.bartsemmo_policy.Goals as goal
 
 pub returns : goal.returns

@@ -1,5 +1,4 @@
 use Rattle.exports.specs.Policy.{triggers_from_of}
-use borrow.Author.Rules.{rules}
 use Rattle.exports.proofs.policy.triggers_from.Goals as goal
 
 pub returns : goal.returns

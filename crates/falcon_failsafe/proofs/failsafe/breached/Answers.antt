@@ -1,6 +1,5 @@
 use Rattle.falcon_failsafe.proofs.Events.{failsafed_if}
 use Rattle.falcon_failsafe.specs.Failsafe.{breach_fails, breached_in}
-use borrow.Author.Rules.{rules}
 use Rattle.falcon_failsafe.proofs.failsafe.breached.Goals as goal
 
 pub returns : goal.returns

@@ -1,4 +1,3 @@
-use borrow.Author.Rules.{rules}
 use Rattle.falcon_failsafe.proofs.failsafe.cleared.Goals as goal
 
 pub returns : goal.returns

@@ -1,4 +1,3 @@
-use borrow.Author.Rules.{rules}
 use Rattle.falcon_failsafe.proofs.failsafe.counted.Goals as goal
 
 pub returns-then-again : goal.returns-then-again

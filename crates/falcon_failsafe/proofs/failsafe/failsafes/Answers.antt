@@ -1,5 +1,4 @@
 use Rattle.falcon_failsafe.specs.Failsafe.{failsafes_in}
-use borrow.Author.Rules.{rules}
 use Rattle.falcon_failsafe.proofs.failsafe.failsafes.Goals as goal
 
 pub returns : goal.returns

@@ -1,4 +1,3 @@
-use borrow.Author.Rules.{rules}
 use Rattle.falcon_failsafe.proofs.failsafe.motor_lost.Goals as goal
 
 pub returns : goal.returns

@@ -1,4 +1,3 @@
-use borrow.Author.Rules.{rules}
 use Rattle.falcon_failsafe.proofs.failsafe.on_if.Goals as goal
 
 pub returns-then-given : goal.returns-then-given

@@ -8,7 +8,6 @@ use Rattle.falcon_failsafe.specs.declared.flight.FlightSupervisor.{FlightSupervi
 use Rattle.falcon_failsafe.specs.Flight.{with_mode}
 use Rattle.falcon_failsafe.specs.Failsafe.{without_position_of, motor_lost_of, reported_of}
 use Rattle.falcon_failsafe.proofs.Events.{reported_is}
-use borrow.Author.Rules.{rules}
 use Rattle.falcon_failsafe.proofs.failsafe.reported.Goals as goal
 
 -- the facts of the calls, put together

@@ -11,7 +11,6 @@ use Rattle.relay_fsm.specs.Fsm.{on_of}
 use Rattle.falcon_failsafe.specs.declared.flight.FailsafeState.{FailsafeState}
 use Rattle.falcon_failsafe.specs.Failsafe.{in_flight_of, tilt_runaway_cycles, runaway_enough, runaway_in}
 use Rattle.falcon_failsafe.proofs.Events.{mode_if}
-use borrow.Author.Rules.{rules}
 use Rattle.falcon_failsafe.proofs.failsafe.runaway.Goals as goal
 
 -- the facts of the calls, put together

@@ -12,7 +12,6 @@ use Rattle.relay_fsm.specs.Fsm.{on_of}
 use Rattle.falcon_failsafe.specs.declared.flight.FailsafeState.{FailsafeState}
 use Rattle.falcon_failsafe.specs.Failsafe.{in_flight_of, wind_cycles, wind_count_of, wind_enough, wind_fails, with_wind, wind_in}
 use Rattle.falcon_failsafe.proofs.Events.{failsafed_if}
-use borrow.Author.Rules.{rules}
 use Rattle.falcon_failsafe.proofs.failsafe.wind.Goals as goal
 
 -- the facts of the calls, put together

@@ -1,5 +1,4 @@
 use Rattle.falcon_failsafe.specs.Preflight.{esc_telemetry_of}
-use borrow.Author.Rules.{rules}
 use Rattle.falcon_failsafe.proofs.preflight.esc_telemetry.Goals as goal
 
 pub returns-then-rpm : goal.returns-then-rpm

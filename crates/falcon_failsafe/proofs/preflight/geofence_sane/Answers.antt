@@ -1,5 +1,4 @@
 use Rattle.falcon_failsafe.specs.Preflight.{geofence_sane_of}
-use borrow.Author.Rules.{rules}
 use Rattle.falcon_failsafe.proofs.preflight.geofence_sane.Goals as goal
 
 pub returns : goal.returns

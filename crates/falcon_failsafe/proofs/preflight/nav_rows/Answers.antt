@@ -1,5 +1,4 @@
 use Rattle.falcon_failsafe.specs.Preflight.{nav_rows_of}
-use borrow.Author.Rules.{rules}
 use Rattle.falcon_failsafe.proofs.preflight.nav_rows.Goals as goal
 
 pub returns : goal.returns

@@ -7,7 +7,6 @@ use Rattle.relay_preflight.specs.Table.{set_of}
 use Rattle.relay_batt.specs.declared.estimator.BattState.{BattState}
 use Rattle.falcon_guidance.specs.declared.state.Config.{Config}
 use Rattle.falcon_failsafe.specs.Preflight.{takeoff_margin_soc, geofence_sane_of, readiness_rows_in}
-use borrow.Author.Rules.{rules}
 use Rattle.falcon_failsafe.proofs.preflight.readiness_rows.Goals as goal
 
 -- the facts of the calls, put together

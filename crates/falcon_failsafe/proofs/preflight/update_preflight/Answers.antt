@@ -5,7 +5,6 @@ use Rattle.relay_batt.specs.declared.battery.Battery.{Battery}
 use Rattle.falcon_guidance.specs.declared.state.Config.{Config}
 use Rattle.falcon_guidance.specs.declared.state.Tick.{Tick}
 use Rattle.falcon_failsafe.specs.Preflight.{nav_rows_of, integrity_rows_in, integrity_rows_of, readiness_rows_in, update_preflight_in}
-use borrow.Author.Rules.{rules}
 use Rattle.falcon_failsafe.proofs.preflight.update_preflight.Goals as goal
 
 -- the facts of the calls, put together

@@ -1,4 +1,3 @@
-use borrow.Author.Rules.{rules}
 use Rattle.falcon_flight.proofs.milestone.arrived.Goals as goal
 
 pub returns : goal.returns

@@ -1,5 +1,4 @@
 use Rattle.falcon_flight.specs.Milestone.{distance3_of}
-use borrow.Author.Rules.{rules}
 use Rattle.falcon_flight.proofs.milestone.distance3.Goals as goal
 
 pub returns : goal.returns

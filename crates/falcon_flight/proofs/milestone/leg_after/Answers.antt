@@ -1,5 +1,4 @@
 -- A leg that another follows is below a count, so one more fits.
-use borrow.Author.Rules.{rules}
 use borrow.Author.Tests.{ltb-true}
 use native.Mathlib.Omega.{arith}
 use mathlib.Core.Path.{sym, ◌∙◌}

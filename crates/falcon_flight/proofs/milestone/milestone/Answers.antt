@@ -1,5 +1,4 @@
 use Rattle.falcon_flight.specs.Milestone.{milestone_in}
-use borrow.Author.Rules.{rules}
 use Rattle.falcon_flight.proofs.milestone.milestone.Goals as goal
 
 pub returns : goal.returns

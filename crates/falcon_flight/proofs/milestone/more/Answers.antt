@@ -1,5 +1,4 @@
 -- Where the leg is not below the count, none follows.
-use borrow.Author.Rules.{rules}
 use borrow.Author.Tests.{le-ltb}
 use native.Mathlib.Omega.{arith}
 use mathlib.Core.Path.{sym}

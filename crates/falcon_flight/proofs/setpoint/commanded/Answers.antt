@@ -1,4 +1,3 @@
-use borrow.Author.Rules.{rules}
 use Rattle.falcon_flight.proofs.setpoint.commanded.Goals as goal
 
 pub returns-then-z-landing : goal.returns-then-z-landing

@@ -1,4 +1,3 @@
-use borrow.Author.Rules.{rules}
 use Rattle.falcon_flight.proofs.setpoint.landing.Goals as goal
 
 pub returns-then-t : goal.returns-then-t

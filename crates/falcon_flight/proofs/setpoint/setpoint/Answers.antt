@@ -1,4 +1,3 @@
-use borrow.Author.Rules.{rules}
 use Rattle.falcon_flight.proofs.setpoint.setpoint.Goals as goal
 
 pub returns-then-failed : goal.returns-then-failed

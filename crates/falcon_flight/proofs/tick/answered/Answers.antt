@@ -12,7 +12,6 @@ use Rattle.falcon_hold.specs.Hold.{horiz_speed_of}
 use Rattle.falcon_flight.specs.declared.tick.TickAnswer.TheVariants.{MotorsOff, Setpoint}
 use Rattle.falcon_flight.specs.Setpoint.{landing_in, setpoint_at, commanded_in, motors_off_of}
 use Rattle.falcon_flight.specs.Tick.{answer_in}
-use borrow.Author.Rules.{rules}
 use Rattle.falcon_flight.proofs.tick.answered.Goals as goal
 
 -- the facts of the calls put together, with the motors off and with a setpoint

@@ -1,5 +1,4 @@
 use Rattle.falcon_flight.proofs.Assembled.{joined}
-use borrow.Author.Rules.{rules}
 use Rattle.falcon_flight.proofs.tick.tick.Goals as goal
 
 pub returns : goal.returns

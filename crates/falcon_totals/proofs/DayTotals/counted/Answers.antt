@@ -1,7 +1,6 @@
 -- By the mode that a tick ended in: its total has one more, and every other is as it was.
 use borrow.Author.Tests.{not-true, not-false}
 use Rattle.falcon_totals.specs.Totals.{counted_of}
-use borrow.Author.Rules.{rules}
 use Rattle.falcon_totals.proofs.DayTotals.counted.Goals as goal
 
 pub returns-then-not-ticked : goal.returns-then-not-ticked

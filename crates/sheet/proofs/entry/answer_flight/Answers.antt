@@ -1,12 +1,10 @@
-use mathlib.Core.Logic.{⊎_elim}
 use mathlib.Core.Path.{◌≡◌, sym, ap, ◌∙◌}
 use Rattle.falcon_core.specs.declared.calls.FlightAnswered.{FlightAnswered}
 use Rattle.falcon_core.specs.Calls.{totals_beside_of, numbers_of, flight_step_of}
 use Rattle.requests.specs.declared.kinds.FlightCall.{FlightCall}
 use Rattle.requests.specs.Kinds.{flight_asks}
 use Rattle.sheet.proofs.Entries.{front_ten, report_legs, command_legs}
-use borrow.Author.Rules.{rules}
-use Rattle.sheet.proofs.entry.answer_flight.Goals.{Joined-call}
+use Rattle.sheet.proofs.entry.answer_flight.Goals.{Joined-call, in-Ticks, in-Reports, in-Commands}
 use Rattle.sheet.proofs.entry.answer_flight.Goals as goal
 
 -- by either of the three calls
@@ -16,10 +14,11 @@ told_is : (c : Joined-call) →
 told_is c =
     let a = c.args in
     let step : FlightCall → FlightAnswered = λ k. flight_step_of a.f a.opened a.due a.legs (flight_asks k) in
-    ⊎_elim (λ w. w.4 ∙ w.3.ensures ∙ ap step (sym w.1.given.1))
-    (⊎_elim (λ w. w.4 ∙ w.3.ensures ∙ report_legs a.f a.opened a.due a.legs _ ∙ ap step (sym w.1.given.1))
-    (λ w. w.4 ∙ w.3.ensures ∙ command_legs a.f a.opened a.due a.legs _ _ _ ∙ ap step (sym w.1.given.1)))
-    c.match-call.branch
+    elim c.match-call.branch [
+      | in-Ticks w ↦ w.told-is ∙ w.flight_tick-told.ensures ∙ ap step (sym w.in-Ticks.is)
+      | in-Reports w ↦ w.told-is ∙ w.flight_report-told.ensures ∙ report_legs a.f a.opened a.due a.legs _ ∙ ap step (sym w.in-Reports.is)
+      | in-Commands w ↦ w.told-is ∙ w.flight_command-told.ensures ∙ command_legs a.f a.opened a.due a.legs _ _ _ ∙ ap step (sym w.in-Commands.is)
+    ]
 
 pub returns : goal.returns
 returns c = let told = told_is (goal.at.returns c).Joined-call in

@@ -1,5 +1,5 @@
 -- `keep` moves a byte a turn.
-use Prim.Native.Nat.{ℕ, min, ◌+◌, ◌-◌, ◌≤◌}
+use Prim.Native.Nat.{ℕ, min, ◌+◌, ◌-◌}
 use native.Mathlib.Omega.{arith}
 use mathlib.Core.Path.{◌≡◌, refl, ap, ◌∙◌}
 use mathlib.Core.List.{List, ◌++◌}
@@ -26,16 +26,17 @@ loop-i-preserved c = let a = c.args in
       ),
     )
 
--- CLAUSES value buf_after
 pub returns : goal.returns
 returns c = let a = c.args in
     let l = c.loop-i in
     let b = a.buf.now in
     let k = kept_of b a.from a.have in
     let long : length k ≡ min kept_width (min a.have (length b) - a.from) = kept_length b a.from a.have in
-    let end : l.i ≡ length k = omega arith in (
-      omega arith,
-      l.invariant.1.0
+    let end : l.i ≡ length k = omega arith in
+    record {
+      value = omega arith;
+      buf_after =
+          l.invariant.1.0
           ∙ ap (λ (n : ℕ). take n k ++ drop n b) end
-          ∙ ap (λ (t : List ℕ). t ++ drop (length k) b) (take-length k),
-    )
+          ∙ ap (λ (t : List ℕ). t ++ drop (length k) b) (take-length k);
+    }

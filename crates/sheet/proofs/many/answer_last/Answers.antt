@@ -1,4 +1,4 @@
-use Prim.Native.Nat.{ℕ, ◌+◌}
+use Prim.Native.Nat.{ℕ}
 use native.Mathlib.Omega.{arith}
 use mathlib.Core.Path.{refl, sym, ap, ◌∙◌}
 use mathlib.Core.List.{List, [], ◌∷◌, ◌++◌}
@@ -10,25 +10,22 @@ use Rattle.requests.specs.ByLine.{need_of}
 use Rattle.sheet.specs.Lines.{newline, last_line}
 use Rattle.sheet.specs.Many.{after_line, fitting}
 use Rattle.sheet.proofs.Replies.{reply_room, reply_line_lem, reply_long, over_none, last_none, last_short, last_answer}
-use borrow.Author.Rules.{rules}
 use Rattle.sheet.proofs.many.answer_last.Goals as goal
 
--- CLAUSES progress buffer unchanged
 pub returns-then-input-eq0 : goal.returns-then-input-eq0
 returns-then-input-eq0 c = let a = c.args in
     let o =
     over_none a.s (fitting a.s (last_line a.input.now) a.out.now) a.input.now a.out.now _ c.none_answered.ensures
     (last_none a.s a.input.now a.out.now c.if-input-eq0.true) in
-    (o.0, (o.1, refl))
+    record { progress = o.0; buffer = o.1; unchanged = refl }
 
--- CLAUSES progress buffer unchanged
 pub returns-then-lacks_room : goal.returns-then-lacks_room
 returns-then-lacks_room c = let a = c.args in
     let h = leb-true (length a.out.now) (need_of a.input.now) (sym c.lacks_room.ensures ∙ c.if-lacks_room.true) in
     let o =
     over_none a.s (fitting a.s (last_line a.input.now) a.out.now) a.input.now a.out.now _ c.none_answered-then-lacks_room.ensures
     (last_short a.s a.input.now a.out.now h) in
-    (o.0, (o.1, refl))
+    record { progress = o.0; buffer = o.1; unchanged = refl }
 
 pub slice_bounds-write_reply-end : goal.slice_bounds-write_reply-end
 slice_bounds-write_reply-end c = sym (length-take-le _ _ c.answer_numbers-replied.ensures.among)
@@ -38,7 +35,6 @@ write_reply-written-requires c = let a = c.args in
     let h = leb-false (length a.out.now) (need_of a.input.now) (sym c.lacks_room.ensures ∙ c.if-lacks_room.false) in
     omega (arith, h, reply_room a.s a.input.now _ c.answer_numbers-replied.ensures.numbers)
 
--- CLAUSES progress buffer unchanged
 pub returns : goal.returns
 unfolding after_line
 returns c = let a = c.args in
@@ -46,8 +42,8 @@ returns c = let a = c.args in
     let replied = c.answer_numbers-replied.ensures in
     let call = c.write_reply-written in
     let o =
-    last_answer a.s a.input.now a.out.now call.new.1.0 _ call.result c.if-input-eq0.false h
-    (call.ensures.1 ∙ ap (λ (l : List ℕ). put a.out.now 0 (l ++ (newline ∷ []))) (reply_line_lem a.s a.input.now _ replied.numbers))
+    last_answer a.s a.input.now a.out.now call.new.out _ call.result c.if-input-eq0.false h
+    (call.ensures.out_after ∙ ap (λ (l : List ℕ). put a.out.now 0 (l ++ (newline ∷ []))) (reply_line_lem a.s a.input.now _ replied.numbers))
     replied.state
-    (omega (arith, call.ensures.0, reply_long a.s a.input.now _ replied.numbers)) in
-    (o.0, (o.1, refl))
+    (omega (arith, call.ensures.value, reply_long a.s a.input.now _ replied.numbers)) in
+    record { progress = o.0; buffer = o.1; unchanged = refl }

@@ -1,9 +1,8 @@
-use Prim.Native.Nat.{ℕ, ◌+◌, ◌-◌, ◌≤◌, ◌<◌}
+use Prim.Native.Nat.{ℕ, ◌+◌, ◌-◌, ◌<◌}
 use native.Mathlib.Omega.{arith}
-use mathlib.Core.Logic.{inl, inr}
 use mathlib.Core.Path.{◌≡◌, refl, sym, ap, ◌∙◌, subst}
 use mathlib.Core.List.{List, [], ◌∷◌, ◌++◌}
-use lib.ListN.{length, take, drop, length-map}
+use lib.ListN.{length, take, drop}
 use lib.Seq.{length-take-le}
 use Rattle.falcon_guidance.specs.declared.state.Point.{Point}
 use Rattle.falcon_guidance.specs.declared.state.Legs.{Legs}
@@ -19,13 +18,13 @@ use Rattle.sheet.specs.Entry.{Replied, FlightLeft}
 use Rattle.sheet.specs.Lines.{newline, whole}
 use Rattle.sheet.specs.Many.{after_line, reply_line, EndsFitting}
 use Rattle.sheet.proofs.LinesAgain.{whole_most}
-use Rattle.sheet.proofs.LinesTurns.{Going, going_first, going_more, going_next}
-use Rattle.sheet.proofs.LinesFit.{Fitted, fitted_first, fits_next, fits_last}
+use Rattle.sheet.proofs.LinesTurns.{going_first, going_more, going_next}
+use Rattle.sheet.proofs.LinesFit.{fitted_first, fits_next, fits_last}
 use Rattle.sheet.proofs.Replies.{line_fits, reply_room, reply_line_lem, reply_long, lines_progress, lines_buffer}
 use Rattle.sheet.proofs.Entries.{state_of, replied_as, replied_flight}
 use Rattle.falcon_guidance.proofs.LegPlaces.{place_at, legs_are}
 use borrow.Author.Rules.{rules}
-use Rattle.sheet.proofs.many.answer_lines.Goals.{Joined-kind}
+use Rattle.sheet.proofs.many.answer_lines.Goals.{Joined-kind, in-Flight, in-Other}
 use Rattle.sheet.proofs.many.answer_lines.Goals as goal
 
 pub loop-end-init : goal.loop-end-init
@@ -36,7 +35,7 @@ loop-end-init c = let a = c.args in
         fitted_first after_line reply_line need_of a.s (whole a.input.now) (length a.out.now),
         (
           subst (λ (n : ℕ). EndsFitting a.input.now 0 n c.next_fitting-end.result) z c.next_fitting-end.ensures,
-          (omega arith, simp length-map at c.well-formed.0.1.1.1.0.1.0.1),
+          (omega arith, c.well_formed.0.1.1.1.0.1.0.1),
         ),
       ),
     )
@@ -59,54 +58,54 @@ pub bounds-waypoints-next_at : goal.bounds-waypoints-next_at
 bounds-waypoints-next_at c = place_at _ _ c.next_place-next_at.ensures
 
 pub slice_bounds-answer_flight-end : goal.slice_bounds-answer_flight-end
-slice_bounds-answer_flight-end c = sym c.asked-kind.ensures.1.0
+slice_bounds-answer_flight-end c = sym c.asked-kind.ensures.numbers_len
 
 pub answer_flight-told-requires : goal.answer_flight-told-requires
-answer_flight-told-requires c = omega (arith, c.asked-kind.ensures.1.0)
+answer_flight-told-requires c = omega (arith, c.asked-kind.ensures.numbers_len)
 
 pub slice_bounds-answer_other-end : goal.slice_bounds-answer_other-end
-slice_bounds-answer_other-end c = sym c.asked-kind.ensures.1.0
+slice_bounds-answer_other-end c = sym c.asked-kind.ensures.numbers_len
 
 pub answer_other-replied-requires : goal.answer_other-replied-requires
 answer_other-replied-requires c = let asked = c.asked-kind in
-    (subst (λ (k : Kind). KindListed k asked.new.1.0) c.in-Other.is asked.ensures.0.1, asked.ensures.1.0)
+    (subst (λ (k : Kind). KindListed k asked.new.numbers) c.in-Other.is asked.ensures.says.1, asked.ensures.numbers_len)
 
 -- what either entry leaves
 replied-is : (c : Joined-kind) →
     let l = c.loop-end in
     let m = c.match-kind in
     let line = take (l.end - l.used) (drop l.used c.args.input.now) in
-    Replied (answered_by (state_of l.flight l.waypoints l.opened l.report-due l.totals) (asked_line line)) (state_of m.flight m.waypoints m.opened m.report-due m.totals) m.numbers m.count
+    Replied (answered_by (state_of l.flight l.waypoints l.opened l.report_due l.totals) (asked_line line)) (state_of m.flight m.waypoints m.opened m.report_due m.totals) m.numbers m.count
     × ((length m.numbers ≡ number_places) × (length m.waypoints ≡ max_waypoints))
 replied-is c =
     let l = c.loop-end in
     let m = c.match-kind in
     let line = take (l.end - l.used) (drop l.used c.args.input.now) in
-    let s = state_of l.flight l.waypoints l.opened l.report-due l.totals in
+    let s = state_of l.flight l.waypoints l.opened l.report_due l.totals in
     let asked = c.asked-kind in
     let long = l.invariant.1.1.1.1 in
     elim m.branch [
-      | inl w ↦
-          let call = w.1.given.0.0 in
-          let told = w.11 in
-          let ns = told.last.1.1.1.1.1.1.0 in
+      | in-Flight w ↦
+          let call = w.in-Flight.call in
+          let told = w.answer_flight-told in
+          let ns = told.new.numbers in
           let of : FlightAnswered → Type 0 = λ a. FlightLeft l.flight l.totals a told.result ns in
-          let legs = legs_are l.waypoints long l.flight.config l.flight.mission w.5.result w.6.result w.9.result w.5.ensures w.6.ensures w.9.ensures in
-          let left = subst (λ (x : Legs). of (flight_step_of l.flight l.opened l.report-due x (flight_asks call))) legs told.ensures in
-          let is = sym (ap (kind_asks asked.new.1.0) w.1.given.1) ∙ asked.ensures.0.0 in
-          let wide : length ns ≡ number_places = told.kept.1.1.1.1.1.1.0 ∙ asked.ensures.1.0 in (
+          let legs = legs_are l.waypoints long l.flight.config l.flight.mission w.here_place-here_at.result w.next_place-next_at.result w.legs_from-legs.result w.here_place-here_at.ensures w.next_place-next_at.ensures w.legs_from-legs.ensures in
+          let left = subst (λ (x : Legs). of (flight_step_of l.flight l.opened l.report_due x (flight_asks call))) legs told.ensures in
+          let is = sym (ap (kind_asks asked.new.numbers) w.in-Flight.is) ∙ asked.ensures.says.0 in
+          let wide : length ns ≡ number_places = told.auto.numbers ∙ asked.ensures.numbers_len in (
             replied_as _ (answered_by s (asked_line line)) _ _ ns m.numbers answer_fields m.count (replied_flight s call told.result ns left (omega (arith, wide))) (ap (answered_by s) is)
-                (λ i. state_of (w.16 i) (w.17 i) (w.18 i) (w.19 i) (w.20 i)) w.15 w.21,
-            (ap (λ (x : List ℕ). length x) w.15 ∙ wide, ap (λ (x : List Point). length x) w.17 ∙ long),
+                (λ i. state_of (w.flight-is i) (w.waypoints-is i) (w.opened-is i) (w.report_due-is i) (w.totals-is i)) w.numbers-is w.count-is,
+            (ap (λ (x : List ℕ). length x) w.numbers-is ∙ wide, ap (λ (x : List Point). length x) w.waypoints-is ∙ long),
           )
-      | inr w ↦
-          let other = w.4 in
-          let ns = other.last.1.1.0 in
-          let is = sym (ap (kind_asks asked.new.1.0) w.1.given.1) ∙ asked.ensures.0.0 in
-          let wide : length ns ≡ number_places = other.kept.1.1.0 ∙ asked.ensures.1.0 in (
+      | in-Other w ↦
+          let other = w.answer_other-replied in
+          let ns = other.new.numbers in
+          let is = sym (ap (kind_asks asked.new.numbers) w.in-Other.is) ∙ asked.ensures.says.0 in
+          let wide : length ns ≡ number_places = other.auto.numbers ∙ asked.ensures.numbers_len in (
             replied_as _ (answered_by s (asked_line line)) _ _ ns m.numbers other.result.count m.count other.ensures (ap (answered_by s) is)
-                (λ i. state_of (w.11 i) (w.12 i) (w.13 i) (w.14 i) (w.15 i)) w.10 w.16,
-            (ap (λ (x : List ℕ). length x) w.10 ∙ wide, ap (λ (x : List Point). length x) w.12 ∙ (simp length-map at other.ok.1.1.0.1.1.1.0.1.0.1)),
+                (λ i. state_of (w.flight-is i) (w.waypoints-is i) (w.opened-is i) (w.report_due-is i) (w.totals-is i)) w.numbers-is w.count-is,
+            (ap (λ (x : List ℕ). length x) w.numbers-is ∙ wide, ap (λ (x : List Point). length x) w.waypoints-is ∙ other.type_inv.1.1.0.1.1.1.0.1.0.1),
           )
     ]
 
@@ -121,21 +120,21 @@ pub write_reply-written-requires : goal.write_reply-written-requires
 write_reply-written-requires c = let l = c.loop-end in
     let h = c.loop-end-test.true in
     let line = take (l.end - l.used) (drop l.used c.args.input.now) in
-    let s = state_of l.flight l.waypoints l.opened l.report-due l.totals in
+    let s = state_of l.flight l.waypoints l.opened l.report_due l.totals in
     omega (arith, reply_room s line _ (replied-is (goal.at.write_reply-written-requires c).Joined-kind).0.numbers, l.invariant.1.1.0.fits h, l.invariant.0.long, l.invariant.1.1.1.0)
 
 pub overflow_add-lines : goal.overflow_add-lines
 overflow_add-lines c = let l = c.loop-end in
     let h = c.loop-end-test.true in
-    omega (arith, l.invariant.0.most, going_more _ _ _ _ _ _ _ _ _ _ _ l.invariant.0 (l.invariant.1.1.0.found h) h, whole_most c.args.input.now, c.well-formed.1.0.0)
+    omega (arith, l.invariant.0.most, going_more _ _ _ _ _ _ _ _ _ _ _ l.invariant.0 (l.invariant.1.1.0.found h) h, whole_most c.args.input.now, c.well_formed.1.0.0)
 
 pub overflow_sub-out : goal.overflow_sub-out
 overflow_sub-out c = let l = c.loop-end in
     let h = c.loop-end-test.true in
     let call = c.write_reply-written in
     let line = take (l.end - l.used) (drop l.used c.args.input.now) in
-    let s = state_of l.flight l.waypoints l.opened l.report-due l.totals in
-    omega (arith, call.ensures.0, reply_room s line _ (replied-is (goal.at.overflow_sub-out c).Joined-kind).0.numbers, l.invariant.1.1.0.fits h, l.invariant.0.long, l.invariant.1.1.1.0, call.auto.1.0)
+    let s = state_of l.flight l.waypoints l.opened l.report_due l.totals in
+    omega (arith, call.ensures.value, reply_room s line _ (replied-is (goal.at.overflow_sub-out c).Joined-kind).0.numbers, l.invariant.1.1.0.fits h, l.invariant.0.long, l.invariant.1.1.1.0, call.auto.out)
 
 pub loop-end-smaller : goal.loop-end-smaller
 loop-end-smaller c = omega (arith, c.loop-end-test.true, c.loop-end.invariant.1.1.0.found c.loop-end-test.true)
@@ -148,18 +147,18 @@ loop-end-preserved c = let a = c.args in
     let m = c.match-kind in
     let call = c.write_reply-written in
     let line = take (l.end - l.used) (drop l.used a.input.now) in
-    let s = state_of l.flight l.waypoints l.opened l.report-due l.totals in
-    let t = state_of m.flight m.waypoints m.opened m.report-due m.totals in
+    let s = state_of l.flight l.waypoints l.opened l.report_due l.totals in
+    let t = state_of m.flight m.waypoints m.opened m.report_due m.totals in
     let ends = l.invariant.1.1.0 in
     let replied = replied-is (goal.at.loop-end-preserved c).Joined-kind in
     let is = replied.0.numbers in
-    let next = call.new.1.0 in
+    let next = call.new.out in
     let is-after : t ≡ after_line s line = replied.0.state in
-    let more : call.result ≡ l.written + (length (reply_line s line) + 1) = omega (arith, call.ensures.0, reply_long s line _ is) in
-    let placed : next ≡ put l.out l.written (reply_line s line ++ (newline ∷ [])) = call.ensures.1 ∙ ap (λ (r : List ℕ). put l.out l.written (r ++ (newline ∷ []))) (reply_line_lem s line _ is) in
-    let long : length next ≡ length a.out.now = call.auto.1.0 ∙ l.invariant.0.long in (
+    let more : call.result ≡ l.written + (length (reply_line s line) + 1) = omega (arith, call.ensures.value, reply_long s line _ is) in
+    let placed : next ≡ put l.out l.written (reply_line s line ++ (newline ∷ [])) = call.ensures.out_after ∙ ap (λ (r : List ℕ). put l.out l.written (r ++ (newline ∷ []))) (reply_line_lem s line _ is) in
+    let long : length next ≡ length a.out.now = call.auto.out ∙ l.invariant.0.long in (
       going_next after_line reply_line a.s a.input.now a.out.now s l.used l.written l.lines l.end l.out t call.result
-          next l.invariant.0 (ends.found h) h is-after placed call.auto.1.0 more,
+          next l.invariant.0 (ends.found h) h is-after placed call.auto.out more,
       (
         fits_next after_line reply_line need_of a.s a.input.now a.out.now s l.used l.written l.lines l.out l.invariant.0 l.invariant.1.0
             l.end t call.result (ends.found h) h (ends.fits h) is-after more,
@@ -170,15 +169,16 @@ loop-end-preserved c = let a = c.args in
       ),
     )
 
--- CLAUSES progress buffer unchanged
 pub returns : goal.returns
 returns c = let a = c.args in
     let l = c.loop-end in
-    let s = state_of l.flight l.waypoints l.opened l.report-due l.totals in
+    let s = state_of l.flight l.waypoints l.opened l.report_due l.totals in
     let g = l.invariant.0 in
     let all =
     fits_last after_line reply_line need_of a.s a.input.now a.out.now s l.used l.written l.lines l.out g l.invariant.1.0
-    (l.invariant.1.1.0.none c.loop-end-test.false s) in (
-      lines_progress a.s a.input.now a.out.now s l.used l.written l.lines l.out g all,
-      (lines_buffer a.s a.input.now a.out.now s l.used l.written l.lines l.out g all, refl),
-    )
+    (l.invariant.1.1.0.none c.loop-end-test.false s) in
+    record {
+      progress = lines_progress a.s a.input.now a.out.now s l.used l.written l.lines l.out g all;
+      buffer = lines_buffer a.s a.input.now a.out.now s l.used l.written l.lines l.out g all;
+      unchanged = refl;
+    }

@@ -14,7 +14,6 @@ use Rattle.falcon_guidance.specs.State.{zerof, no_zone, max_keepout_zones}
 use Rattle.falcon_failsafe.specs.declared.flight.Opening.{Opening}
 use Rattle.falcon_failsafe.specs.declared.flight.FlightSupervisor.{FlightSupervisor}
 use Rattle.falcon_failsafe.specs.Flight.{opened_of}
-use borrow.Author.Rules.{rules}
 use Rattle.falcon_failsafe.proofs.flight.FlightSupervisor.opened.Goals as goal
 
 -- the facts of the calls, put together
