@@ -23,21 +23,21 @@ given_by true e given h = (refl, cc)
 given_by false e given h = (cc, cc)
 
 -- the return after the last leg is no touchdown
-mission_by : (arrived more ground : Bool) → cond arrived (cond more none (some RequestRtl)) none ≡ some Touchdown → ground ≡ true
-mission_by true true ground h = cc
-mission_by true false ground h = cc
-mission_by false more ground h = cc
+mission_by : (arrived more low : Bool) → cond arrived (cond more none (some RequestRtl)) none ≡ some Touchdown → low ≡ true
+mission_by true true low h = cc
+mission_by true false low h = cc
+mission_by false more low h = cc
 
 touchdown_by :
-    (m : Mode) (high home ground arrived more : Bool) → milestone_event m high home ground arrived more ≡ some Touchdown → ground ≡ true
-touchdown_by Disarmed high home ground arrived more h = cc
-touchdown_by Armed high home ground arrived more h = cc
-touchdown_by Takeoff high home ground arrived more h = cc (given_by high ReachedAltitude Touchdown h).1
-touchdown_by Loiter high home ground arrived more h = cc
-touchdown_by Mission high home ground arrived more h = mission_by arrived more ground h
-touchdown_by Land high home ground arrived more h = (given_by ground Touchdown Touchdown h).0
-touchdown_by Rtl high home ground arrived more h = cc (given_by home ReachedHome Touchdown h).1
-touchdown_by Terminated high home ground arrived more h = cc
+    (m : Mode) (high home low arrived more : Bool) → milestone_event m high home low arrived more ≡ some Touchdown → low ≡ true
+touchdown_by Disarmed high home low arrived more h = cc
+touchdown_by Armed high home low arrived more h = cc
+touchdown_by Takeoff high home low arrived more h = cc (given_by high ReachedAltitude Touchdown h).1
+touchdown_by Loiter high home low arrived more h = cc
+touchdown_by Mission high home low arrived more h = mission_by arrived more low h
+touchdown_by Land high home low arrived more h = (given_by low Touchdown Touchdown h).0
+touchdown_by Rtl high home low arrived more h = cc (given_by home ReachedHome Touchdown h).1
+touchdown_by Terminated high home low arrived more h = cc
 
 -- a touchdown is told only below 0.15
 pub touchdown_low : (f : FlightSupervisor) (l : Legs) (t : Tick) → milestone_gives f l t ≡ some Touchdown → near_ground_of f.config t ≡ true

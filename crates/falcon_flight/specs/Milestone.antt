@@ -76,14 +76,14 @@ more_of m = ltb (m.wp_index + 1) m.wp_count
 
 -- what the milestone of the mode gives the mode machine
 abbrev pub milestone_event : Mode → Bool → Bool → Bool → Bool → Bool → Option Event
-milestone_event Disarmed high home ground arrived more = none
-milestone_event Armed high home ground arrived more = none
-milestone_event Takeoff high home ground arrived more = cond high (some ReachedAltitude) none
-milestone_event Loiter high home ground arrived more = none
-milestone_event Mission high home ground arrived more = cond arrived (cond more none (some RequestRtl)) none
-milestone_event Land high home ground arrived more = cond ground (some Touchdown) none
-milestone_event Rtl high home ground arrived more = cond home (some ReachedHome) none
-milestone_event Terminated high home ground arrived more = none
+milestone_event Disarmed high home low arrived more = none
+milestone_event Armed high home low arrived more = none
+milestone_event Takeoff high home low arrived more = cond high (some ReachedAltitude) none
+milestone_event Loiter high home low arrived more = none
+milestone_event Mission high home low arrived more = cond arrived (cond more none (some RequestRtl)) none
+milestone_event Land high home low arrived more = cond low (some Touchdown) none
+milestone_event Rtl high home low arrived more = cond home (some ReachedHome) none
+milestone_event Terminated high home low arrived more = none
 
 unfoldable pub milestone_gives : FlightSupervisor → Legs → Tick → Option Event
 milestone_gives f l t =
@@ -98,8 +98,8 @@ leg_of f l t = leg_in f.fsm.mode (arrived_of l t) f.mission
 
 -- what the milestone changes: the mode and the leg
 unfoldable pub milestone_by_of : Mode → Point → MissionState → Bool → Bool → Bool → Point → Reached
-milestone_by_of m here s high home ground p =
-    record { mode = mode_after m (milestone_event m high home ground (arrived_at here p) (more_of s)); wp_index = leg_in m (arrived_at here p) s }
+milestone_by_of m here s high home low p =
+    record { mode = mode_after m (milestone_event m high home low (arrived_at here p) (more_of s)); wp_index = leg_in m (arrived_at here p) s }
 
 -- at this distance from home and this point
 unfoldable pub milestone_in : Mode → Config → Point → MissionState → Float → Point → Reached

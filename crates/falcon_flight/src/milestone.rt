@@ -80,10 +80,10 @@ fn milestone_by(
     m: Mission,
     high: bool,
     home: bool,
-    ground: bool,
+    low: bool,
     p: Point,
 ) -> Reached
-    ensures { result ≡ milestone_by_of mode here m high home ground p }
+    ensures { result ≡ milestone_by_of mode here m high home low p }
 {
     let wp_index = m.wp_index;
     match mode {
@@ -96,7 +96,7 @@ fn milestone_by(
             wp_index,
         },
         Mode::Land => Reached {
-            mode: on_if(mode, ground, Event::Touchdown, in_flight()),
+            mode: on_if(mode, low, Event::Touchdown, in_flight()),
             wp_index,
         },
         Mode::Mission => {

@@ -18,10 +18,10 @@ use Rattle.falcon_flight.proofs.Milestones.{mode_unless}
 use Rattle.falcon_flight.proofs.milestone.milestone_by.Goals as goal
 
 -- the facts of the calls put together, by the mode
-module _ (m : Mode) (here : Point) (s : MissionState) (high home ground : Bool) (p : Point) where
+module _ (m : Mode) (here : Point) (s : MissionState) (high home low : Bool) (p : Point) where
   -- this mode and this leg are the milestone
   abbrev Gives : Mode → ℕ → Type 0
-  Gives next leg = ◌≡◌ {A = Reached} (record { mode = next; wp_index = leg }) (milestone_by_of m here s high home ground p)
+  Gives next leg = ◌≡◌ {A = Reached} (record { mode = next; wp_index = leg }) (milestone_by_of m here s high home low p)
 
   module _ {g : Gates} {next : Mode} (e : g ≡ in_flight_of) where
     takeoff : m ≡ Takeoff → next ≡ cond high (on_of m ReachedAltitude g) m → Gives next s.wp_index
@@ -65,29 +65,29 @@ module _ (m : Mode) (here : Point) (s : MissionState) (high home ground : Bool) 
   terminated h = rw h
 
 pub returns-then-arrived : goal.returns-then-arrived
-returns-then-arrived c = mission c.args.mode c.args.here c.args.m c.args.high c.args.home c.args.ground c.args.p c.in_flight-then-arrived.ensures c.in-Mission.is c.arrived.ensures c.if-arrived.true c.more.ensures c.on_if-then-arrived.ensures c.leg_after.ensures
+returns-then-arrived c = mission c.args.mode c.args.here c.args.m c.args.high c.args.home c.args.low c.args.p c.in_flight-then-arrived.ensures c.in-Mission.is c.arrived.ensures c.if-arrived.true c.more.ensures c.on_if-then-arrived.ensures c.leg_after.ensures
 
 pub returns-in-Takeoff : goal.returns-in-Takeoff
-returns-in-Takeoff c = takeoff c.args.mode c.args.here c.args.m c.args.high c.args.home c.args.ground c.args.p c.in_flight.ensures c.in-Takeoff.is c.on_if.ensures
+returns-in-Takeoff c = takeoff c.args.mode c.args.here c.args.m c.args.high c.args.home c.args.low c.args.p c.in_flight.ensures c.in-Takeoff.is c.on_if.ensures
 
 pub returns-in-Rtl : goal.returns-in-Rtl
-returns-in-Rtl c = rtl c.args.mode c.args.here c.args.m c.args.high c.args.home c.args.ground c.args.p c.in_flight-in-Rtl.ensures c.in-Rtl.is c.on_if-in-Rtl.ensures
+returns-in-Rtl c = rtl c.args.mode c.args.here c.args.m c.args.high c.args.home c.args.low c.args.p c.in_flight-in-Rtl.ensures c.in-Rtl.is c.on_if-in-Rtl.ensures
 
 pub returns-in-Land : goal.returns-in-Land
 unfolding milestone_by_of
 returns-in-Land c = simp (mode_if, c.on_if-in-Land.ensures, c.in_flight-in-Land.ensures, c.in-Land.is)
 
 pub returns-else-arrived : goal.returns-else-arrived
-returns-else-arrived c = on-the-way c.args.mode c.args.here c.args.m c.args.high c.args.home c.args.ground c.args.p c.in-Mission.is c.arrived.ensures c.if-arrived.false
+returns-else-arrived c = on-the-way c.args.mode c.args.here c.args.m c.args.high c.args.home c.args.low c.args.p c.in-Mission.is c.arrived.ensures c.if-arrived.false
 
 pub returns-in-Disarmed : goal.returns-in-Disarmed
-returns-in-Disarmed c = disarmed c.args.mode c.args.here c.args.m c.args.high c.args.home c.args.ground c.args.p c.in-Disarmed.is
+returns-in-Disarmed c = disarmed c.args.mode c.args.here c.args.m c.args.high c.args.home c.args.low c.args.p c.in-Disarmed.is
 
 pub returns-in-Armed : goal.returns-in-Armed
-returns-in-Armed c = armed c.args.mode c.args.here c.args.m c.args.high c.args.home c.args.ground c.args.p c.in-Armed.is
+returns-in-Armed c = armed c.args.mode c.args.here c.args.m c.args.high c.args.home c.args.low c.args.p c.in-Armed.is
 
 pub returns-in-Loiter : goal.returns-in-Loiter
-returns-in-Loiter c = loiter c.args.mode c.args.here c.args.m c.args.high c.args.home c.args.ground c.args.p c.in-Loiter.is
+returns-in-Loiter c = loiter c.args.mode c.args.here c.args.m c.args.high c.args.home c.args.low c.args.p c.in-Loiter.is
 
 pub returns-in-Terminated : goal.returns-in-Terminated
-returns-in-Terminated c = terminated c.args.mode c.args.here c.args.m c.args.high c.args.home c.args.ground c.args.p c.in-Terminated.is
+returns-in-Terminated c = terminated c.args.mode c.args.here c.args.m c.args.high c.args.home c.args.low c.args.p c.in-Terminated.is

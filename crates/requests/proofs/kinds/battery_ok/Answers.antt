@@ -1,6 +1,5 @@
 use mathlib.Core.Path.{refl}
 use Rattle.requests.specs.Kinds.{battery_ok_of}
-use borrow.Author.Rules.{rules}
 use Rattle.requests.proofs.kinds.battery_ok.Goals as goal
 
 pub returns : goal.returns

@@ -1,7 +1,6 @@
 use mathlib.Core.Path.{sym, ◌∙◌}
 use Rattle.requests.specs.Kinds.{command_line_of}
 use borrow.Author.Tests.{eq-eqb, ne_eqb}
-use borrow.Author.Rules.{rules}
 use Rattle.requests.proofs.kinds.command_line.Goals as goal
 
 pub returns-then-ns-ne-COMMAND_FIELDS : goal.returns-then-ns-ne-COMMAND_FIELDS

@@ -6,7 +6,6 @@ use native.Mathlib.Nat.{mul-le-mul}
 use Rattle.falcon_guidance.specs.State.{zone_numbers_of}
 use Rattle.requests.specs.Kinds.{list_fields}
 use borrow.Author.Tests.{ne_eqb}
-use borrow.Author.Rules.{rules}
 use Rattle.requests.proofs.kinds.is_list.Goals as goal
 
 pub returns-then-ns-lt-LIST_HEAD : goal.returns-then-ns-lt-LIST_HEAD
@@ -17,7 +16,7 @@ below : (w n : ℕ) → w ≤ zone_numbers_of → n ≤ 4294967295 → w * n ≤
 below w n h k = mul-le-mul h k
 
 pub overflow_mul-result : goal.overflow_mul-result
-overflow_mul-result c = omega (arith, below c.args.width (get_or c.args.ns.now 1 0) c.requires (omega (arith, c.shared_slice_known-1.given 1)))
+overflow_mul-result c = omega (arith, below c.args.width (get_or c.args.ns.now 1 0) c.requires (omega (arith, c.type_inv.ns 1)))
 
 pub overflow_add-result : goal.overflow_add-result
-overflow_add-result c = omega (arith, below c.args.width (get_or c.args.ns.now 1 0) c.requires (omega (arith, c.shared_slice_known-1.given 1)))
+overflow_add-result c = omega (arith, below c.args.width (get_or c.args.ns.now 1 0) c.requires (omega (arith, c.type_inv.ns 1)))

@@ -1,7 +1,6 @@
 use mathlib.Core.Path.{◌∙◌}
 use Rattle.requests.specs.Kinds.{request_of}
 use borrow.Author.Tests.{eq-eqb, ne_eqb}
-use borrow.Author.Rules.{rules}
 use Rattle.requests.proofs.kinds.kind_of.Goals as goal
 
 pub returns-then-kind-eq1 : goal.returns-then-kind-eq1

@@ -1,5 +1,4 @@
 use Rattle.requests.specs.Kinds.{opening_from_of}
-use borrow.Author.Rules.{rules}
 use Rattle.requests.proofs.kinds.opening_from.Goals as goal
 
 pub returns : goal.returns

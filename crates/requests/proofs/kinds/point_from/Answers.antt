@@ -1,4 +1,3 @@
-use borrow.Author.Rules.{rules}
 use Rattle.requests.proofs.kinds.point_from.Goals as goal
 
 pub returns : goal.returns

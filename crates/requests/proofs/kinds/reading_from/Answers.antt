@@ -1,6 +1,5 @@
 use Rattle.requests.specs.Kinds.{reading_from_of}
 use borrow.Author.Tests.{eq-eqb, ne_eqb}
-use borrow.Author.Rules.{rules}
 use Rattle.requests.proofs.kinds.reading_from.Goals as goal
 
 pub returns-then-battery-eq0 : goal.returns-then-battery-eq0

@@ -1,5 +1,4 @@
 use Rattle.requests.specs.Kinds.{tick_from_of}
-use borrow.Author.Rules.{rules}
 use Rattle.requests.proofs.kinds.tick_from.Goals as goal
 
 pub returns : goal.returns

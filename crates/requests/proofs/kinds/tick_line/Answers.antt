@@ -1,6 +1,5 @@
 use Rattle.requests.specs.Kinds.{tick_line_of}
 use borrow.Author.Tests.{eq-eqb, ne_eqb}
-use borrow.Author.Rules.{rules}
 use Rattle.requests.proofs.kinds.tick_line.Goals as goal
 
 pub returns-then-ns-ne-TICK_FIELDS : goal.returns-then-ns-ne-TICK_FIELDS

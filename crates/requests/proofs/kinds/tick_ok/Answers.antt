@@ -1,5 +1,4 @@
 use Rattle.requests.specs.Kinds.{tick_ok_of}
-use borrow.Author.Rules.{rules}
 use Rattle.requests.proofs.kinds.tick_ok.Goals as goal
 
 pub returns : goal.returns

@@ -5,7 +5,6 @@ use lib.ListN.{length}
 use lib.Seq.{take_all}
 use borrow.Author.Tests.{eqb-true}
 use Rattle.falcon_guidance.specs.State.{zone_numbers_of}
-use borrow.Author.Rules.{rules}
 use Rattle.requests.specs.Kinds.{list_fields, is_list_of, zones_line_of}
 use Rattle.requests.proofs.kinds.zones_line.Goals as goal
 

@@ -4,7 +4,6 @@ use lib.Dec.{ltb}
 use borrow.Author.Tests.{le-ltb}
 use Rattle.requests.specs.ByLine.{need_of}
 use Rattle.requests.proofs.Buffer.{needs_most}
-use borrow.Author.Rules.{rules}
 use Rattle.requests.proofs.need.is_short.Goals as goal
 
 pub returns-then-room-ge-MOST_NEED : goal.returns-then-room-ge-MOST_NEED

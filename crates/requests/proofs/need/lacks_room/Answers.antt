@@ -4,7 +4,6 @@ use lib.Dec.{leb}
 use borrow.Author.Tests.{lt-leb}
 use Rattle.requests.specs.ByLine.{need_of}
 use Rattle.requests.proofs.Buffer.{needs_most}
-use borrow.Author.Rules.{rules}
 use Rattle.requests.proofs.need.lacks_room.Goals as goal
 
 pub returns-then-room-gt-MOST_NEED : goal.returns-then-room-gt-MOST_NEED

@@ -1,5 +1,4 @@
 use Rattle.requests.proofs.Buffer.{need_totals, need_record, need_other}
-use borrow.Author.Rules.{rules}
 use Rattle.requests.proofs.need.need_fields.Goals as goal
 
 pub returns-then-kind : goal.returns-then-kind

@@ -1,7 +1,6 @@
 use native.Mathlib.Omega.{arith}
 use Rattle.columns.specs.Field.{in_range}
 use Rattle.requests.proofs.Buffer.{need_most, needs_kinded}
-use borrow.Author.Rules.{rules}
 use Rattle.requests.proofs.need.need_of.Goals as goal
 
 pub overflow_mul-result : goal.overflow_mul-result

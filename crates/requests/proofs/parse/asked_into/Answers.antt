@@ -1,14 +1,6 @@
 -- `asked_into` reads a line's numbers, and then what they ask.
-use Prim.Native.Nat.{ℕ}
-use native.Mathlib.Omega.{arith}
-use mathlib.Core.Logic.{◌⊎◌, inl, inr}
-use mathlib.Core.Path.{◌≡◌, subst, ◌∙◌}
-use denote.Enum.Declared.{tag_of}
-use Rattle.columns.specs.declared.line.LineRead.{LineRead}
-use Rattle.columns.specs.declared.line.LineRead.TheVariants.{Numbers}
-use Rattle.columns.specs.contracts.line.LineRead.{the_type}
+use mathlib.Core.Path.{◌∙◌}
 use Rattle.requests.proofs.Asking.{array_after, asked_broken, taken, taken_some, asked_read, says_among}
-use borrow.Author.Rules.{rules}
 use Rattle.requests.proofs.parse.asked_into.Goals as goal
 
 pub returns-in_default : goal.returns-in_default

@@ -1,5 +1,4 @@
 use native.Mathlib.Omega.{arith}
-use borrow.Author.Rules.{rules}
 use Rattle.requests.proofs.Asking.{length_short, length_kinded, kinded_most}
 use Rattle.requests.proofs.parse.line_limit.Goals as goal
 

@@ -13,7 +13,6 @@ use Rattle.requests.specs.ByLine.{need_of}
 use Rattle.requests.proofs.Buffer.{short_step, short_buffer_lem, full_step, full_reply}
 use Rattle.sheet.specs.Entry.{line_answered}
 use Rattle.sheet.proofs.Entries.{answered_is}
-use borrow.Author.Rules.{rules}
 use Rattle.sheet.proofs.entry.answer.Goals as goal
 
 pub returns-then-is_short : goal.returns-then-is_short

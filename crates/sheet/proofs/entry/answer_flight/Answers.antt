@@ -4,7 +4,6 @@ use Rattle.falcon_core.specs.Calls.{totals_beside_of, numbers_of, flight_step_of
 use Rattle.requests.specs.declared.kinds.FlightCall.{FlightCall}
 use Rattle.requests.specs.Kinds.{flight_asks}
 use Rattle.sheet.proofs.Entries.{front_ten, report_legs, command_legs}
-use borrow.Author.Rules.{rules}
 use Rattle.sheet.proofs.entry.answer_flight.Goals.{Joined-call, in-Ticks, in-Reports, in-Commands}
 use Rattle.sheet.proofs.entry.answer_flight.Goals as goal
 

@@ -5,7 +5,6 @@ use Rattle.falcon_core.specs.Calls.{legs_in, flight_step_of}
 use Rattle.requests.specs.Kinds.{flight_asks}
 use Rattle.sheet.specs.Entry.{FlightLeft}
 use Rattle.sheet.proofs.Entries.{replied_flight}
-use borrow.Author.Rules.{rules}
 use Rattle.sheet.proofs.entry.answer_flight_whole.Goals as goal
 
 pub returns : goal.returns

@@ -2,7 +2,6 @@ use mathlib.Core.Path.{sym, subst}
 use Rattle.requests.specs.declared.kinds.Kind.{Kind}
 use Rattle.requests.specs.Kinds.{answered_by, kind_asks, KindListed}
 use Rattle.sheet.specs.Entry.{Replied}
-use borrow.Author.Rules.{rules}
 use Rattle.sheet.proofs.entry.answer_kind.Goals as goal
 
 pub answer_other-requires : goal.answer_other-requires

@@ -1,7 +1,6 @@
 use mathlib.Core.Path.{subst}
 use Rattle.requests.specs.Kinds.{Asked, answered_by}
 use Rattle.sheet.specs.Entry.{Replied}
-use borrow.Author.Rules.{rules}
 use Rattle.sheet.proofs.entry.answer_numbers.Goals as goal
 
 pub returns : goal.returns

@@ -2,7 +2,6 @@ use mathlib.Core.Path.{subst}
 use Rattle.falcon_core.specs.declared.calls.Answered.{Answered}
 use Rattle.sheet.specs.Entry.{Replied}
 use Rattle.sheet.proofs.Entries.{replied_told}
-use borrow.Author.Rules.{rules}
 use Rattle.sheet.proofs.entry.answer_other.Goals as goal
 
 pub returns : goal.returns

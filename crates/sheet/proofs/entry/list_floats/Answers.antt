@@ -3,7 +3,6 @@ use native.Mathlib.Omega.{arith}
 use lib.Ieee.{binary32, of_bits}
 use Rattle.columns.specs.Line.{number_at}
 use Rattle.sheet.proofs.Floats.{lent_is}
-use borrow.Author.Rules.{rules}
 use Rattle.sheet.proofs.entry.list_floats.Goals as goal
 
 pub returns : goal.returns

@@ -2,7 +2,6 @@ use native.Mathlib.Omega.{arith}
 use mathlib.Core.Path.{subst}
 use Rattle.requests.specs.declared.kinds.OtherCall.{OtherCall}
 use Rattle.requests.specs.Kinds.{Listed}
-use borrow.Author.Rules.{rules}
 use Rattle.sheet.proofs.entry.other_step.Goals as goal
 
 pub points_step-requires : goal.points_step-requires

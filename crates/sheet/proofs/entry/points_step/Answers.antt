@@ -3,7 +3,6 @@ use mathlib.Core.List.{List}
 use lib.Seq.{length-take-le}
 use lib.Ieee.{Float}
 use Rattle.falcon_core.specs.Calls.{plans, points, step_of}
-use borrow.Author.Rules.{rules}
 use Rattle.sheet.proofs.entry.points_step.Goals as goal
 
 pub slice_bounds-set_mission_waypoints-end : goal.slice_bounds-set_mission_waypoints-end

@@ -7,7 +7,6 @@ use Rattle.columns.specs.Line.{put_over}
 use Rattle.columns.proofs.Writing.{put_behind}
 use Rattle.falcon_core.specs.Calls.{numbers_of}
 use Rattle.falcon_core.proofs.Numbers.{numbers_count}
-use borrow.Author.Rules.{rules}
 use Rattle.sheet.proofs.entry.put_answer.Goals as goal
 
 pub returns : goal.returns

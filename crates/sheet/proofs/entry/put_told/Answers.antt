@@ -8,7 +8,6 @@ use Rattle.falcon_record.specs.Saved.{record_fields}
 use Rattle.falcon_record.proofs.Saving.{columns_count, record_fits}
 use Rattle.requests.specs.ByLine.{extra_of}
 use Rattle.sheet.proofs.Entries.{told_none, told_put}
-use borrow.Author.Rules.{rules}
 use Rattle.sheet.proofs.entry.put_told.Goals as goal
 
 pub returns-in-Nothing : goal.returns-in-Nothing

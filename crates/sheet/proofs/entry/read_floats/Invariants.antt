@@ -1,14 +1,9 @@
 -- After i turns the first i numbers are read.
-use borrow.Author.Rules.{rules}
-use native.Mathlib.Omega.{arith}
-use native.Mathlib.Numerals.{add-one}
 use Prim.Native.Nat.{◌≤◌, ◌-◌}
-use mathlib.Core.Path.{◌≡◌, refl}
+use mathlib.Core.Path.{◌≡◌}
 use mathlib.Core.List.{◌++◌, map}
-use lib.ListN.{length, take, drop, length-set}
+use lib.ListN.{length, take, drop}
 use lib.Ieee.{binary32, of_bits}
-use Rattle.sheet.proofs.Floats.{mapped_next}
-use lib.Seq.{take-length}
 use Rattle.sheet.proofs.entry.read_floats.Given as goal
 
 abbrev pub invariant-loop-i : goal.invariant-loop-i

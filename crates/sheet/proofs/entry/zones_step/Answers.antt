@@ -3,7 +3,6 @@ use mathlib.Core.List.{List}
 use lib.Seq.{length-take-le}
 use lib.Ieee.{Float}
 use Rattle.falcon_core.specs.Calls.{plans, zones, step_of}
-use borrow.Author.Rules.{rules}
 use Rattle.sheet.proofs.entry.zones_step.Goals as goal
 
 pub slice_bounds-set_keepout_zones-end : goal.slice_bounds-set_keepout_zones-end

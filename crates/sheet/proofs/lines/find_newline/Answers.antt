@@ -1,10 +1,6 @@
 -- `find_newline` passes the blocks that are clear.
-use Prim.Native.Nat.{◌-◌, ◌≤◌}
 use native.Mathlib.Omega.{arith}
 use mathlib.Core.Path.{refl, sym, ◌∙◌}
-use lib.ListN.{length}
-use borrow.Author.Rules.{rules}
-use Rattle.sheet.specs.Lines.{Clear}
 use Rattle.sheet.proofs.LinesTurns.{end_past}
 use Rattle.sheet.proofs.lines.find_newline.Goals as goal
 

@@ -1,9 +1,8 @@
 -- `has_newline`: while none is found, the bytes tried are clear.
-use Prim.Native.Nat.{ℕ, ◌+◌, ◌-◌, ◌≤◌}
+use Prim.Native.Nat.{ℕ, ◌+◌}
 use native.Mathlib.Omega.{arith}
 use mathlib.Core.Path.{◌≡◌, ap}
-use mathlib.Core.Bool.{false}
-use Rattle.sheet.specs.Lines.{Clear, block_width}
+use Rattle.sheet.specs.Lines.{block_width}
 use Rattle.sheet.proofs.LinesTurns.{block_none, block_next, clear_same}
 use Rattle.sheet.proofs.lines.has_newline.Goals as goal
 

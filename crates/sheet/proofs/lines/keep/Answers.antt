@@ -1,5 +1,5 @@
 -- `keep` moves a byte a turn.
-use Prim.Native.Nat.{ℕ, min, ◌+◌, ◌-◌, ◌≤◌}
+use Prim.Native.Nat.{ℕ, min, ◌+◌, ◌-◌}
 use native.Mathlib.Omega.{arith}
 use mathlib.Core.Path.{◌≡◌, refl, ap, ◌∙◌}
 use mathlib.Core.List.{List, ◌++◌}

@@ -1,12 +1,9 @@
 -- `keep` moves a byte a turn.
-use Prim.Native.Nat.{ℕ, min, ◌+◌, ◌-◌, ◌≤◌}
-use native.Mathlib.Omega.{arith}
-use mathlib.Core.Path.{◌≡◌, refl, ap, ◌∙◌}
-use mathlib.Core.List.{List, ◌++◌}
-use lib.ListN.{length, get_or, set, take, drop, length-set}
-use lib.Seq.{take-length}
-use Rattle.sheet.specs.Lines.{kept_width, kept_of}
-use Rattle.sheet.proofs.LinesTurns.{moved_next, kept_length, kept_same}
+use Prim.Native.Nat.{◌-◌, ◌≤◌}
+use mathlib.Core.Path.{◌≡◌}
+use mathlib.Core.List.{◌++◌}
+use lib.ListN.{length, take, drop}
+use Rattle.sheet.specs.Lines.{kept_of}
 use Rattle.sheet.proofs.lines.keep.Given as goal
 
 abbrev pub invariant-loop-i : goal.invariant-loop-i

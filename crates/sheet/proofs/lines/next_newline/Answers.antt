@@ -1,9 +1,6 @@
 -- `next_newline` is `line_end` from a place on.
-use Prim.Native.Nat.{◌+◌, ◌-◌}
 use native.Mathlib.Omega.{arith}
-use mathlib.Core.Path.{◌≡◌, refl, sym, ◌∙◌}
-use lib.ListN.{length, drop}
-use Rattle.sheet.specs.Lines.{line_end}
+use mathlib.Core.Path.{sym, ◌∙◌}
 use Rattle.sheet.proofs.LinesTurns.{end_found, end_next, end_past}
 use Rattle.sheet.proofs.lines.next_newline.Goals as goal
 

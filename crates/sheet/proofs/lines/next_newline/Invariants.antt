@@ -1,10 +1,8 @@
 -- `next_newline` is `line_end` from a place on.
 use Prim.Native.Nat.{◌+◌, ◌-◌}
-use native.Mathlib.Omega.{arith}
-use mathlib.Core.Path.{◌≡◌, refl, sym, ◌∙◌}
+use mathlib.Core.Path.{◌≡◌}
 use lib.ListN.{length, drop}
 use Rattle.sheet.specs.Lines.{line_end}
-use Rattle.sheet.proofs.LinesTurns.{end_found, end_next, end_past}
 use Rattle.sheet.proofs.lines.next_newline.Given as goal
 
 abbrev pub invariant-loop-i : goal.invariant-loop-i

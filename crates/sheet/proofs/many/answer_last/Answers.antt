@@ -1,4 +1,4 @@
-use Prim.Native.Nat.{ℕ, ◌+◌}
+use Prim.Native.Nat.{ℕ}
 use native.Mathlib.Omega.{arith}
 use mathlib.Core.Path.{refl, sym, ap, ◌∙◌}
 use mathlib.Core.List.{List, [], ◌∷◌, ◌++◌}
@@ -10,7 +10,6 @@ use Rattle.requests.specs.ByLine.{need_of}
 use Rattle.sheet.specs.Lines.{newline, last_line}
 use Rattle.sheet.specs.Many.{after_line, fitting}
 use Rattle.sheet.proofs.Replies.{reply_room, reply_line_lem, reply_long, over_none, last_none, last_short, last_answer}
-use borrow.Author.Rules.{rules}
 use Rattle.sheet.proofs.many.answer_last.Goals as goal
 
 pub returns-then-input-eq0 : goal.returns-then-input-eq0

@@ -1,4 +1,4 @@
-use Prim.Native.Nat.{ℕ, ◌+◌, ◌-◌, ◌≤◌, ◌<◌}
+use Prim.Native.Nat.{ℕ, ◌+◌, ◌-◌, ◌<◌}
 use native.Mathlib.Omega.{arith}
 use mathlib.Core.Path.{◌≡◌, refl, sym, ap, ◌∙◌, subst}
 use mathlib.Core.List.{List, [], ◌∷◌, ◌++◌}
@@ -18,8 +18,8 @@ use Rattle.sheet.specs.Entry.{Replied, FlightLeft}
 use Rattle.sheet.specs.Lines.{newline, whole}
 use Rattle.sheet.specs.Many.{after_line, reply_line, EndsFitting}
 use Rattle.sheet.proofs.LinesAgain.{whole_most}
-use Rattle.sheet.proofs.LinesTurns.{Going, going_first, going_more, going_next}
-use Rattle.sheet.proofs.LinesFit.{Fitted, fitted_first, fits_next, fits_last}
+use Rattle.sheet.proofs.LinesTurns.{going_first, going_more, going_next}
+use Rattle.sheet.proofs.LinesFit.{fitted_first, fits_next, fits_last}
 use Rattle.sheet.proofs.Replies.{line_fits, reply_room, reply_line_lem, reply_long, lines_progress, lines_buffer}
 use Rattle.sheet.proofs.Entries.{state_of, replied_as, replied_flight}
 use Rattle.falcon_guidance.proofs.LegPlaces.{place_at, legs_are}

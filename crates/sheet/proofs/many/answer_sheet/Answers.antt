@@ -1,4 +1,3 @@
-use Prim.Native.Nat.{◌-◌}
 use native.Mathlib.Omega.{arith}
 use mathlib.Core.Path.{refl, ap, ◌∙◌}
 use Rattle.falcon_core.specs.declared.supervisor.Supervisor.{Supervisor}
@@ -6,7 +5,6 @@ use Rattle.sheet.specs.Lines.{lines_of}
 use Rattle.sheet.specs.Many.{fitting, progress_in, answers_over}
 use Rattle.sheet.proofs.Replies.{progress_written, progress_used}
 use Rattle.sheet.proofs.Sheets.{sheet_full, sheet_more, sums_most}
-use borrow.Author.Rules.{rules}
 use Rattle.sheet.proofs.many.answer_sheet.Goals as goal
 
 pub returns-then-find_newline-input : goal.returns-then-find_newline-input

@@ -4,7 +4,6 @@ use lib.ListN.{take, drop}
 use borrow.Author.Tests.{leb-true, leb-false}
 use Rattle.requests.specs.ByLine.{need_of}
 use Rattle.sheet.proofs.Replies.{ends_none, ends_full, ends_fitting}
-use borrow.Author.Rules.{rules}
 use Rattle.sheet.proofs.many.next_fitting.Goals as goal
 
 pub returns-then-input-end : goal.returns-then-input-end

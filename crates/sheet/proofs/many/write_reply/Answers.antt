@@ -8,7 +8,6 @@ use Rattle.columns.proofs.Writing.{length_line}
 use Rattle.requests.proofs.Buffer.{written_fits}
 use Rattle.sheet.specs.Lines.{newline}
 use Rattle.sheet.proofs.LinesTurns.{placed_line}
-use borrow.Author.Rules.{rules}
 use Rattle.sheet.proofs.many.write_reply.Goals as goal
 
 pub returns : goal.returns
