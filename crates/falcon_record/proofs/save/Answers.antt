@@ -4,7 +4,6 @@ use mathlib.Core.Path.{sym, ap, ◌∙◌}
 use Rattle.columns.specs.Line.{put_over}
 use Rattle.falcon_core.specs.declared.calls.Answered.{Answered}
 use Rattle.falcon_record.proofs.Saving.{short_saved, full_saved, saved_accepted, saved_refused}
-use borrow.Author.Rules.{rules}
 use Rattle.falcon_record.proofs.save.Goals as goal
 
 pub returns-then-numbers-lt-RECORD_ROOM : goal.returns-then-numbers-lt-RECORD_ROOM
