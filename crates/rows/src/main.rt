@@ -189,5 +189,11 @@ fn main(rt: HostRuntime) {
     totals_buffers(&mut output);
     record_buffers(&mut output);
     record_arrays(&mut output);
-    replay_all(&mut rt.stdin(), &mut output, &mut head, &mut sheet, &mut out);
+    replay_all(
+        &mut rt.stdin(),
+        &mut output,
+        &mut head,
+        &mut sheet,
+        &mut out,
+    );
 }

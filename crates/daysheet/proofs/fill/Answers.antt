@@ -1,5 +1,4 @@
 use native.Mathlib.Omega.{arith}
-use borrow.Author.Rules.{rules}
 use Rattle.daysheet.proofs.Reading.{front_stays}
 use borrow.Rule.Slice.PartMut.{same_len_mid}
 use Rattle.std.proofs.Common.{length-take, length-drop}

@@ -2,7 +2,6 @@ use native.Mathlib.Omega.{arith}
 use mathlib.Core.Path.{sym}
 use lib.ListN.{length-set}
 use lib.Seq.{length-take-le}
-use borrow.Author.Rules.{rules}
 use Rattle.sheet.proofs.Replies.{progress_written}
 use Rattle.daysheet.proofs.Draining.{finish_none, finish_one}
 use Rattle.daysheet.proofs.finish.Goals as goal

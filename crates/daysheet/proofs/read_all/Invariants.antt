@@ -1,11 +1,8 @@
 use Prim.Native.Nat.{◌≤◌}
-use mathlib.Core.Path.{◌≡◌, refl, ◌∙◌}
-use lib.Dec.{lit≤}
+use mathlib.Core.Path.{◌≡◌}
 use lib.ListN.{length, take}
-use borrow.Author.Rules.{rules}
 use Rattle.sheet.specs.Lines.{kept_width}
 use Rattle.daysheet.specs.Reader.{ReadsAll}
-use Rattle.daysheet.proofs.Reading.{reads_none, reads_more}
 use Rattle.daysheet.proofs.read_all.Given as goal
 
 abbrev pub invariant-loop-turns : goal.invariant-loop-turns

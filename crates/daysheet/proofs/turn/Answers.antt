@@ -1,7 +1,6 @@
 use native.Mathlib.Omega.{arith}
 use mathlib.Core.Path.{sym}
 use lib.Seq.{length-take-le}
-use borrow.Author.Rules.{rules}
 use Rattle.sheet.proofs.LinesTurns.{kept_length}
 use Rattle.daysheet.proofs.Reading.{turn_part}
 use Rattle.daysheet.proofs.turn.Goals as goal

@@ -1,12 +1,22 @@
 use native.Mathlib.Omega.{arith}
 use mathlib.Core.Path.{sym}
 use lib.Seq.{length-take-le}
-use borrow.Author.Rules.{rules}
 use borrow.Author.Tests.{eqb-true}
 use Rattle.sheet.proofs.Replies.{within_written}
 use Rattle.sheet.proofs.Sheets.{all_answered}
 use Rattle.rows.proofs.write_answers.Goals as goal
 
+pub slice_bounds-print-end : goal.slice_bounds-print-end
+slice_bounds-print-end c =
+    let call = c.answer_sheet-progress in
+    omega (arith, call.auto.out, within_written _ _ _ _ call.result call.ensures.progress)
+
+pub slice_bounds-print-end-2 : goal.slice_bounds-print-end-2
+slice_bounds-print-end-2 c =
+    let call = c.answer_sheet-progress in
+    sym (length-take-le _ _ (omega (arith, call.auto.out, within_written _ _ _ _ call.result call.ensures.progress)))
+
 pub returns : goal.returns
-returns c = let call = c.answer_sheet-progress in
-    λ all. all_answered _ _ _ call.result call.ensures.0 (eqb-true _ _ all)
+returns c =
+    let call = c.answer_sheet-progress in
+    λ all. all_answered _ _ _ call.result call.ensures.progress (eqb-true _ _ all)

@@ -1,7 +1,5 @@
 -- The ticks left fall with every turn.
 use Prim.Native.Nat.{◌-◌}
-use native.Mathlib.Omega.{arith}
-use borrow.Author.Rules.{rules}
 use Rattle.ticks.proofs.fly.Given as goal
 
 abbrev pub invariant-loop-i : goal.invariant-loop-i

@@ -1,7 +1,5 @@
 -- The days left fall with every turn.
 use Prim.Native.Nat.{◌-◌}
-use native.Mathlib.Omega.{arith}
-use borrow.Author.Rules.{rules}
 use Rattle.ticks.proofs.main.Given as goal
 
 abbrev pub invariant-loop-days : goal.invariant-loop-days
