@@ -19,6 +19,7 @@ OTHER = {
     "rInternal": "pack_r_internal",
     "debounceS": "pack_debounce_s",
     "readField": "field_read",
+    "notALine": "not_a_line",
 }
 # names that port.py has turned in the crates; edits and documents still have the old ones
 TURNED = """

@@ -6,8 +6,8 @@ abbrev pub short_buffer_of : ℕ
 short_buffer_of = 9
 
 -- "length 0, no multiple of 11, over 1,430, or a bad field"
-abbrev pub not_aline : ℕ
-not_aline = 2
+abbrev pub not_a_line : ℕ
+not_a_line = 2
 
 -- "kind not 1..6"; U1: "Refusal 3 no longer fits a kind from the request on that takes lines of it"
 abbrev pub unknown_kind : ℕ

@@ -19,7 +19,7 @@ use Rattle.requests.specs.declared.kinds.Kind.TheVariants.{Flight, Other}
 use Rattle.requests.specs.declared.kinds.OtherCall.TheVariants.{Refused, Opens, Points, Zones, Totals, Saves}
 use Rattle.columns.specs.Line.{read, line_fields, length_ok, read_within, line_answer, numbers_over, number_at}
 use Rattle.requests.specs.Kinds.{Asked, refuses, asks, list_head, list_fields, request_of, list_line, list_floats_of, Says}
-use Rattle.falcon_core.specs.Refusals.{not_aline}
+use Rattle.falcon_core.specs.Refusals.{not_a_line}
 use Rattle.requests.specs.Parse.{asked_by, limit_fields_of, most_fields, reading_line, asked_line, numbers_after}
 
 -- ---- the limit of a line
@@ -79,7 +79,7 @@ module _ (limit : ℕ) (line a : List ℕ) (same : SameLength line limit × (lim
   reading_same = within_limits limit (limit_fields_of (kind_of line)) line same.0
 
   -- a line that was not read
-  pub asked_broken : (r : LineRead) → r ≡ line_answer limit line (length a) → ((n : ℕ) → r ≡ Numbers n → ⊥) → refuses not_aline ≡ asked_line line
+  pub asked_broken : (r : LineRead) → r ≡ line_answer limit line (length a) → ((n : ℕ) → r ≡ Numbers n → ⊥) → refuses not_a_line ≡ asked_line line
   unfolding asked_line
   asked_broken r e none =
       ap asked_by (sym (read_not limit line (length a) (omega (arith, same.1)) (λ n k. none n (e ∙ k))) ∙ reading_same)

@@ -11,7 +11,7 @@ use Rattle.falcon_core.specs.declared.supervisor.Supervisor.{Supervisor}
 use Rattle.falcon_core.specs.declared.calls.Answered.{Answered}
 use Rattle.falcon_core.specs.declared.calls.Output.{Output}
 use Rattle.falcon_core.specs.Calls.{Request, plans, totals, saves, answer_fields, refusal_of, legs_in, output_of, after_of, answer_of, refused_of, accepted_of, numbers_of}
-use Rattle.falcon_core.specs.Refusals.{short_buffer_of, not_aline}
+use Rattle.falcon_core.specs.Refusals.{short_buffer_of, not_a_line}
 use Rattle.falcon_core.proofs.Answers.{step_refused, step_accepted}
 use Rattle.falcon_core.proofs.Parts.{cond_keeps}
 use Rattle.falcon_totals.specs.Totals.{totals_count, totals_numbers}
@@ -126,7 +126,7 @@ numbers_fit ns =
 
 line_fit : (line : List ℕ) (k : Reading) → reading_line line ≡ k → Fits (need_fields_of (kind_of line)) (asked_by k)
 line_fit line (read ns) e = subst (λ (f : FieldRead). Fits (need_fields_of f) (request_of ns)) (sym (reading_kind line ns e)) (numbers_fit ns)
-line_fit line broken e = refused_fit (need_fields_of (kind_of line)) not_aline (need_least (kind_of line))
+line_fit line broken e = refused_fit (need_fields_of (kind_of line)) not_a_line (need_least (kind_of line))
 
 -- a reply is no longer than what its line needs
 pub reply_fits : (s : Supervisor) (line : List ℕ) → length (reply_of (answered_by s (asked_line line))) ≤ need_of line

@@ -4,13 +4,13 @@ use Rattle.columns.specs.declared.field.FieldRead.{FieldRead}
 use Rattle.columns.specs.declared.field.FieldRead.TheVariants.{Number, Bad}
 use Rattle.columns.specs.Field.{kind_of}
 use Rattle.columns.specs.Line.{Reading, read, broken, line_fields, read_within, numbers_over}
-use Rattle.falcon_core.specs.Refusals.{not_aline}
+use Rattle.falcon_core.specs.Refusals.{not_a_line}
 use Rattle.requests.specs.Kinds.{Asked, refuses, request_of}
 
 -- what a line asks once it is read
 abbrev pub asked_by : Reading → Asked
 asked_by (read ns) = request_of ns
-asked_by broken = refuses not_aline
+asked_by broken = refuses not_a_line
 
 -- how many fields a line may have, by its kind: "At most 130 fields"
 unfoldable pub limit_fields_of : FieldRead → ℕ
