@@ -44,9 +44,9 @@ module _ (m : Mode) (here : Point) (s : MissionState) (high home low : Bool) (p 
     unfolding milestone_by_of
     mission h a t k n l = let at : arrived_at here p ≡ true = sym a ∙ t in simp (mode_unless, l, n, k, at, e, h)
 
-  on-the-way : {arrived : Bool} → m ≡ Mission → arrived ≡ arrived_at here p → arrived ≡ false → Gives m s.wp_index
+  on_the_way : {arrived : Bool} → m ≡ Mission → arrived ≡ arrived_at here p → arrived ≡ false → Gives m s.wp_index
   unfolding milestone_by_of
-  on-the-way h a t = let at : arrived_at here p ≡ false = sym a ∙ t in simp (at, h)
+  on_the_way h a t = let at : arrived_at here p ≡ false = sym a ∙ t in simp (at, h)
 
   disarmed : m ≡ Disarmed → Gives m s.wp_index
   unfolding milestone_by_of
@@ -78,7 +78,7 @@ unfolding milestone_by_of
 returns-in-Land c = simp (mode_if, c.on_if-in-Land.ensures, c.in_flight-in-Land.ensures, c.in-Land.is)
 
 pub returns-else-arrived : goal.returns-else-arrived
-returns-else-arrived c = on-the-way c.args.mode c.args.here c.args.m c.args.high c.args.home c.args.low c.args.p c.in-Mission.is c.arrived.ensures c.if-arrived.false
+returns-else-arrived c = on_the_way c.args.mode c.args.here c.args.m c.args.high c.args.home c.args.low c.args.p c.in-Mission.is c.arrived.ensures c.if-arrived.false
 
 pub returns-in-Disarmed : goal.returns-in-Disarmed
 returns-in-Disarmed c = disarmed c.args.mode c.args.here c.args.m c.args.high c.args.home c.args.low c.args.p c.in-Disarmed.is

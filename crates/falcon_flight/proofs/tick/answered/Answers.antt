@@ -16,9 +16,9 @@ use Rattle.falcon_flight.proofs.tick.answered.Goals as goal
 
 -- the facts of the calls put together, with the motors off and with a setpoint
 module _ (mode : Mode) (c : Config) (leg : Point) (z : Zones) (hold : Horizontal) (home : Float) (off : Bool) (t : Tick) where
-  motors-off : {b : Bool} → b ≡ motors_off_of mode → b ≡ true → MotorsOff ≡ answer_in mode c leg z hold home off t
+  motors_off : {b : Bool} → b ≡ motors_off_of mode → b ≡ true → MotorsOff ≡ answer_in mode c leg z hold home off t
   unfolding answer_in
-  motors-off e h = let at : motors_off_of mode ≡ true = sym e ∙ h in rw at
+  motors_off e h = let at : motors_off_of mode ≡ true = sym e ∙ h in rw at
 
   flies :
       {b landing : Bool} {sp ned : Point} →
@@ -32,7 +32,7 @@ module _ (mode : Mode) (c : Config) (leg : Point) (z : Zones) (hold : Horizontal
   flies e h l s n = let at : motors_off_of mode ≡ false = sym e ∙ h in simp (at, n, s, l)
 
 pub returns-then-motors_off : goal.returns-then-motors_off
-returns-then-motors_off c = motors-off c.args.mode c.args.c c.args.leg c.args.z c.args.hold c.args.home c.args.off c.args.t c.motors_off.ensures c.if-motors_off.true
+returns-then-motors_off c = motors_off c.args.mode c.args.c c.args.leg c.args.z c.args.hold c.args.home c.args.off c.args.t c.motors_off.ensures c.if-motors_off.true
 
 pub returns : goal.returns
 returns c = flies c.args.mode c.args.c c.args.leg c.args.z c.args.hold c.args.home c.args.off c.args.t c.motors_off.ensures c.if-motors_off.false c.landing-descent.ensures c.setpoint-sp.ensures c.commanded.ensures

@@ -5,7 +5,6 @@ use Rattle.relay_batt.specs.Curve.{zero, sanitize_of, knot, knots, table_of, cel
 use Rattle.relay_batt.proofs.Walk.{rest, found, passed, ended}
 use Rattle.relay_batt.proofs.curve.ocv_soc_cell.Goals as goal
 
--- places of the table
 -- the volts of the first knot
 abbrev lowest : Float
 lowest = (get_or knots 0 (knot 0 0)).v
@@ -19,15 +18,16 @@ module _ (x : Float) {v : Float} (cut : v ≡ sanitize_of x zero cell_max zero) 
   unfolding knots table_of ocv_soc_cell_of
   above h = simp (sym cut, h)
 
+-- places of the table
 module _ (i : ℕ) (h : i < 8) where
   scaled : i * 8 < 2 ^ 64
   scaled = omega arith
 
-  scaled-before : (i - 1) * 8 < 2 ^ 64
-  scaled-before = omega arith
+  scaled_before : (i - 1) * 8 < 2 ^ 64
+  scaled_before = omega arith
 
-  before-fits : i - 1 < 8
-  before-fits = omega arith
+  before_fits : i - 1 < 8
+  before_fits = omega arith
 
   next_fits : i + 1 < 2 ^ 64
   next_fits = omega arith
@@ -59,10 +59,10 @@ pub overflow_sub-k0 : goal.overflow_sub-k0
 overflow_sub-k0 c = c.loop-i.invariant.0
 
 pub offset_bounds-i-then-v-k1 : goal.offset_bounds-i-then-v-k1
-offset_bounds-i-then-v-k1 c = record { fits = scaled-before _ c.loop-i-test.true }
+offset_bounds-i-then-v-k1 c = record { fits = scaled_before _ c.loop-i-test.true }
 
 pub bounds-i-i-then-v-k1 : goal.bounds-i-i-then-v-k1
-bounds-i-i-then-v-k1 c = before-fits _ c.loop-i-test.true
+bounds-i-i-then-v-k1 c = before_fits _ c.loop-i-test.true
 
 pub returns-then-v-k1 : goal.returns-then-v-k1
 unfolding knots

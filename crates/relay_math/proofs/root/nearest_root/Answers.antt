@@ -23,8 +23,8 @@ short c = sq_lt_back c.args.q (2 ^ 24) (lt_of_le_of_lt c.requires.1 c.requires.0
 abbrev half : ℕ → ℕ → ℕ
 half q k = (2 * (q / 2 ^ k) + 1) * 2 ^ k
 
-half-under : (c : Start) → half c.args.q c.args.k < 2 ^ 26
-half-under c =
+half_under : (c : Start) → half c.args.q c.args.k < 2 ^ 26
+half_under c =
     let q = c.args.q in
     let p = 2 ^ c.args.k in
     let l : q / p * p ≤ q = div-mul-le_self q p in
@@ -32,10 +32,10 @@ half-under c =
     omega (arith, add-mul (2 * (q / p)) 1 p, mul_assoc 2 (q / p) p, short c)
 
 shifted : (c : Start) → half c.args.q c.args.k % 2 ^ 64 ≡ half c.args.q c.args.k
-shifted c = mod-eq_of_lt (lt_of_lt_of_le (half-under c) (lit≤ tt))
+shifted c = mod-eq_of_lt (lt_of_lt_of_le (half_under c) (lit≤ tt))
 
-square-under : (c : Start) → half c.args.q c.args.k * half c.args.q c.args.k ≤ 2 ^ 26 * 2 ^ 26
-square-under c = mul-le-mul (le_of_lt (half-under c)) (le_of_lt (half-under c))
+square_under : (c : Start) → half c.args.q c.args.k * half c.args.q c.args.k ≤ 2 ^ 26 * 2 ^ 26
+square_under c = mul-le-mul (le_of_lt (half_under c)) (le_of_lt (half_under c))
 
 kept : (c : Start) → c.args.q / 2 ^ c.args.k < 2 ^ 24
 kept c = lt_of_le_of_lt (shr_le c.args.q c.args.k) (short c)
@@ -47,13 +47,13 @@ pub overflow_add-h : goal.overflow_add-h
 overflow_add-h c = omega (arith, kept (goal.at.overflow_add-h c).Start)
 
 pub overflow_mul-h-2 : goal.overflow_mul-h-2
-overflow_mul-h-2 c = rw (shifted (goal.at.overflow_mul-h-2 c).Start) (omega (arith, square-under (goal.at.overflow_mul-h-2 c).Start))
+overflow_mul-h-2 c = rw (shifted (goal.at.overflow_mul-h-2 c).Start) (omega (arith, square_under (goal.at.overflow_mul-h-2 c).Start))
 
 pub returns-then-n-h : goal.returns-then-n-h
 returns-then-n-h c = sym (nearest_by c.args.n c.args.q c.args.k Ordering.lt (c.requires.1, c.requires.2) (rw (shifted (goal.at.returns-then-n-h c).Start) at c.if-n-h.true))
 
 pub overflow_mul-h-3 : goal.overflow_mul-h-3
-overflow_mul-h-3 c = rw (shifted (goal.at.overflow_mul-h-3 c).Start) (omega (arith, square-under (goal.at.overflow_mul-h-3 c).Start))
+overflow_mul-h-3 c = rw (shifted (goal.at.overflow_mul-h-3 c).Start) (omega (arith, square_under (goal.at.overflow_mul-h-3 c).Start))
 
 pub overflow_add-result : goal.overflow_add-result
 overflow_add-result c = omega (arith, kept (goal.at.overflow_add-result c).Start)

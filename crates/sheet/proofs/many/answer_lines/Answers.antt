@@ -71,13 +71,13 @@ answer_other-replied-requires c = let asked = c.asked-kind in
     (subst (λ (k : Kind). KindListed k asked.new.numbers) c.in-Other.is asked.ensures.says.1, asked.ensures.numbers_len)
 
 -- what either entry leaves
-replied-is : (c : Joined-kind) →
+replied_is : (c : Joined-kind) →
     let l = c.loop-end in
     let m = c.match-kind in
     let line = take (l.end - l.used) (drop l.used c.args.input.now) in
     Replied (answered_by (state_of l.flight l.waypoints l.opened l.report_due l.totals) (asked_line line)) (state_of m.flight m.waypoints m.opened m.report_due m.totals) m.numbers m.count
     × ((length m.numbers ≡ number_places) × (length m.waypoints ≡ max_waypoints))
-replied-is c =
+replied_is c =
     let l = c.loop-end in
     let m = c.match-kind in
     let line = take (l.end - l.used) (drop l.used c.args.input.now) in
@@ -110,18 +110,18 @@ replied-is c =
     ]
 
 pub slice_bounds-numbers-end : goal.slice_bounds-numbers-end
-slice_bounds-numbers-end c = let r = replied-is (goal.at.slice_bounds-numbers-end c).Joined-kind in
+slice_bounds-numbers-end c = let r = replied_is (goal.at.slice_bounds-numbers-end c).Joined-kind in
     omega (arith, r.0.among, r.1.0)
 
 pub slice_bounds-write_reply-end : goal.slice_bounds-write_reply-end
-slice_bounds-write_reply-end c = sym (length-take-le _ _ (replied-is (goal.at.slice_bounds-write_reply-end c).Joined-kind).0.among)
+slice_bounds-write_reply-end c = sym (length-take-le _ _ (replied_is (goal.at.slice_bounds-write_reply-end c).Joined-kind).0.among)
 
 pub write_reply-written-requires : goal.write_reply-written-requires
 write_reply-written-requires c = let l = c.loop-end in
     let h = c.loop-end-test.true in
     let line = take (l.end - l.used) (drop l.used c.args.input.now) in
     let s = state_of l.flight l.waypoints l.opened l.report_due l.totals in
-    omega (arith, reply_room s line _ (replied-is (goal.at.write_reply-written-requires c).Joined-kind).0.numbers, l.invariant.1.1.0.fits h, l.invariant.0.long, l.invariant.1.1.1.0)
+    omega (arith, reply_room s line _ (replied_is (goal.at.write_reply-written-requires c).Joined-kind).0.numbers, l.invariant.1.1.0.fits h, l.invariant.0.long, l.invariant.1.1.1.0)
 
 pub overflow_add-lines : goal.overflow_add-lines
 overflow_add-lines c = let l = c.loop-end in
@@ -134,7 +134,7 @@ overflow_sub-out c = let l = c.loop-end in
     let call = c.write_reply-written in
     let line = take (l.end - l.used) (drop l.used c.args.input.now) in
     let s = state_of l.flight l.waypoints l.opened l.report_due l.totals in
-    omega (arith, call.ensures.value, reply_room s line _ (replied-is (goal.at.overflow_sub-out c).Joined-kind).0.numbers, l.invariant.1.1.0.fits h, l.invariant.0.long, l.invariant.1.1.1.0, call.auto.out)
+    omega (arith, call.ensures.value, reply_room s line _ (replied_is (goal.at.overflow_sub-out c).Joined-kind).0.numbers, l.invariant.1.1.0.fits h, l.invariant.0.long, l.invariant.1.1.1.0, call.auto.out)
 
 pub loop-end-smaller : goal.loop-end-smaller
 loop-end-smaller c = omega (arith, c.loop-end-test.true, c.loop-end.invariant.1.1.0.found c.loop-end-test.true)
@@ -150,7 +150,7 @@ loop-end-preserved c = let a = c.args in
     let s = state_of l.flight l.waypoints l.opened l.report_due l.totals in
     let t = state_of m.flight m.waypoints m.opened m.report_due m.totals in
     let ends = l.invariant.1.1.0 in
-    let replied = replied-is (goal.at.loop-end-preserved c).Joined-kind in
+    let replied = replied_is (goal.at.loop-end-preserved c).Joined-kind in
     let is = replied.0.numbers in
     let next = call.new.out in
     let is-after : t ≡ after_line s line = replied.0.state in
