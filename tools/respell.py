@@ -138,34 +138,26 @@ def main():
             return m.group(0)
         return keep.sub(one, text)
 
-    n = 0
-    for path in files(os.path.join(root, "crates"), ".antt", ".rt"):
-        with open(path, encoding="utf-8") as f:
-            text = f.read()
-        new = turn(text)
-        if new != text:
-            n += 1
-            with open(path, "w", encoding="utf-8") as f:
-                f.write(new)
+    def rewrite(paths, change):
+        """Applies a change to each file's text; answers how many files it changed."""
+        n = 0
+        for path in paths:
+            with open(path, encoding="utf-8") as f:
+                text = f.read()
+            new = change(text)
+            if new != text:
+                n += 1
+                with open(path, "w", encoding="utf-8") as f:
+                    f.write(new)
+        return n
+
+    crates = os.path.join(root, "crates")
+    n = rewrite(files(crates, ".antt", ".rt"), turn)
     for name in TURNED:
         turned.setdefault(name, snake(name))
-    for path in files(os.path.join(root, "crates"), ".edit"):
-        with open(path, encoding="utf-8") as f:
-            text = f.read()
-        new = turn(text)
-        if new != text:
-            n += 1
-            with open(path, "w", encoding="utf-8") as f:
-                f.write(new)
+    n += rewrite(files(crates, ".edit"), turn)
     pages = [p for d in ("docs", "harness") for p in files(os.path.join(root, d), ".md")] + [os.path.join(root, "README.md")]
-    for path in pages:
-        with open(path, encoding="utf-8") as f:
-            text = f.read()
-        new = re.sub(r"`[^`\n]+`", lambda m: turn(m.group(0)), text)
-        if new != text:
-            n += 1
-            with open(path, "w", encoding="utf-8") as f:
-                f.write(new)
+    n += rewrite(pages, lambda text: re.sub(r"`[^`\n]+`", lambda m: turn(m.group(0)), text))
     print(f"respell: {len(turned)} names, {n} files")
 
 

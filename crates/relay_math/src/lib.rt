@@ -1,4 +1,4 @@
-// Floats: bits in and out for every pattern, and what the Rust takes from its library and Rattle's has not. Flags as numbers.
+// Floats: bits in and out for every pattern, and what the Rust takes from its library: the square root, max, clamp, finiteness, a sum that stops at the limit. Flags as numbers.
 #![tactic(auto)]
 
 ghost use Rattle.std.specs.Prelude.{◌≡◌};

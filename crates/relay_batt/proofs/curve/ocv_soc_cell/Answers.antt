@@ -9,6 +9,7 @@ use Rattle.relay_batt.proofs.curve.ocv_soc_cell.Goals as goal
 abbrev lowest : Float
 lowest = (get_or knots 0 (knot 0 0)).v
 
+-- the answer up to there, and what is left above
 module _ (x : Float) {v : Float} (cut : v ≡ sanitize_of x zero cell_max zero) where
   below : le v lowest ≡ true → zero ≡ ocv_soc_cell_of x
   unfolding knots table_of ocv_soc_cell_of
