@@ -2,4 +2,4 @@
 use Rattle.falcon_core.proofs.calls.beside.Goals as goal
 
 pub returns : goal.returns
-returns c = rw c.totals_beside.ensures
+returns c = rw c.totals_beside-totals.ensures
