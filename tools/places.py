@@ -50,7 +50,8 @@ def functions():
             while depth and end < len(text):
                 depth += {"{": 1, "}": -1}.get(text[end], 0)
                 end += 1
-            yield short(path), start.group(1), parameters, text[opening.end() : end - 1]
+            line = text.count("\n", 0, start.start()) + 1
+            yield short(path), f"{start.group(1)}:{line}", parameters, text[opening.end() : end - 1]
 
 
 def shape(body):

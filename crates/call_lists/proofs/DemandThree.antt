@@ -2,13 +2,13 @@
 use Prim.Native.Nat.{ℕ, zero, suc, ◌+◌, ◌≤◌}
 use native.Mathlib.Nat.{le_refl, zero-add}
 use native.Mathlib.Omega.{arith}
-use mathlib.Core.Bool.{Bool, true, false, cond, ◌&&◌, ◌||◌}
+use mathlib.Core.Bool.{Bool, true, false, cond, ◌&&◌}
 use mathlib.Core.List.{List, [], ◌∷◌}
 use mathlib.Core.Logic.{◌⊎◌, inl, inr, ⊎_elim, ◌↔◌, ◌≢◌}
-use mathlib.Core.Option.{Option, none, some}
 use mathlib.Core.Path.{◌≡◌, refl, sym, ◌∙◌, subst}
 use lib.Dec.{T, leb, leb→le}
 use lib.Ieee.Fits.{and_l, and_r}
+use Rattle.std.specs.Prelude.{Option, Some, None}
 use Rattle.relay_fsm.specs.declared.Mode.{Mode}
 use Rattle.relay_fsm.specs.declared.Mode.TheVariants.{Disarmed, Terminated}
 use Rattle.relay_fsm.specs.Mode.{is_mode, rank_of}
@@ -44,15 +44,15 @@ ground_is c t = refl
 -- a tick with height under 0.15 m that goes to Disarmed through Land
 record Touched (s : Supervisor) (n : Mode) (k : Option Request) : Type 0 where
   tick : Tick
-  is_tick_lem : k ≡ some (ticks tick)
+  is_tick_lem : k ≡ Some (ticks tick)
   low : T (under_ground tick)
   disarmed : n ≡ Disarmed
   through_land : T (through_land_of s.flight (legs_in s) tick)
 
 rank_accepted :
     (s : Supervisor) (r : Request)
-    → T (calm (some r))
-    → (rank_of s.flight.fsm.mode ≤ rank_of (after_of s r).flight.fsm.mode) ⊎ Touched s (after_of s r).flight.fsm.mode (some r)
+    → T (calm (Some r))
+    → (rank_of s.flight.fsm.mode ≤ rank_of (after_of s r).flight.fsm.mode) ⊎ Touched s (after_of s r).flight.fsm.mode (Some r)
 unfolding after_of flight_after
 rank_accepted s (opens o) h = absurd h
 rank_accepted s (ticks t) h =
@@ -69,7 +69,7 @@ rank_seen :
     → m ≡ s.flight.fsm.mode
     → T (calm k)
     → (rank_of m ≤ rank_of (next_mode m a)) ⊎ Touched s (next_mode m a) k
-rank_seen s m _ _ (refused n) e h = inl (rw (refused_mode s m n e) (le_refl (rank_of m)))
+rank_seen s m _ _ (refused n) e h = inl (rw (refused_mode s m n) (le_refl (rank_of m)))
 rank_seen s m _ _ (accepts r q) e h = rw (accepted_mode (after_of s r) m (output_of s.flight (legs_in s) r), e) (rank_accepted s r h)
 
 pub rank_rule : (p : Place) (c : Call) → Holding p → RankKept p c
@@ -102,9 +102,6 @@ tumbling→run zero l h = omega arith
 tumbling→run (suc n) [] h = absurd h
 tumbling→run (suc n) (b ∷ l) h = run_step (tumbling b) (tumbling_for n l) n (run l) (λ k. tumbling→run n l k) h
 
-or_false : (a b : Bool) → a ≡ false → (a || b) ≡ b
-or_false a b e = rw e
-
 not_mode : (m : Mode) → (m ≡ Terminated → ⊥) → is_mode m Terminated ≡ false
 not_mode m h = go (is_mode m Terminated) refl
   where
@@ -127,7 +124,7 @@ module _ (p : Place) (t : Tick) (i : Holding p) where
   enters h e =
       let f : is_mode p.supervisor.flight.fsm.mode Terminated ≡ false = not_mode p.supervisor.flight.fsm.mode (λ q. h (i.mode_is ∙ q)) in
       let a : Mode = (ticked_flight p t i).fsm.mode in
-      let q = tick_ends p.supervisor.flight (legs_in p.supervisor) t ∙ or_false (is_mode p.supervisor.flight.fsm.mode Terminated) _ f in
+      let q = rw f at (tick_ends p.supervisor.flight (legs_in p.supervisor) t) in
       rw (one_more p t i) at (subst T q (eq→is_mode a Terminated e))
 
   forward : (p.mode ≡ Terminated → ⊥) → (ticked_flight p t i).fsm.mode ≡ Terminated → T (tumbling_for tumbling_ticks (now ∷ p.began))
@@ -154,10 +151,10 @@ fifty_seen :
     (p : Place) (a : Answered) (k : Option Request) (t : Tick)
     → Seen p.supervisor a k
     → Holding p
-    → k ≡ some (ticks t)
+    → k ≡ Some (ticks t)
     → ((p.mode ≢ Terminated) × (next_mode p.mode a ≡ Terminated)) ↔ T (tumbling_for tumbling_ticks (next_began p.mode p.began k))
 unfolding after_of flight_after
-fifty_seen p _ _ t (refused n) i e = absurd (let z : ◌≡◌ {A = ℕ} 0 1 = cc in omega arith)
+fifty_seen p _ _ t (refused n) i e = cc
 fifty_seen p _ _ t (accepts r q) i e =
     let x : r ≡ ticks t = cc in
     rw (accepted_mode (after_of p.supervisor r) p.mode (output_of p.supervisor.flight (legs_in p.supervisor) r), x) ((λ u. forward p t i u.0 u.1), back p t i)
@@ -169,20 +166,20 @@ fifty_rule p c i t e = fifty_seen p _ _ t (seen p.supervisor c) i e
 -- ---- the two-tick rule
 
 -- the latch is the battery's of the state
-latch_set : (s : Supervisor) (b : Option Battery) → b ≡ cond s.opened (some s.flight.battery) none → T (latch_of b) → s.flight.battery.est.critical.latched ≡ true
+latch_set : (s : Supervisor) (b : Option Battery) → b ≡ cond s.opened (Some s.flight.battery) None → T (latch_of b) → s.flight.battery.est.critical.latched ≡ true
 latch_set s b e h = go s.opened refl
   where
     go : (o : Bool) → s.opened ≡ o → s.flight.battery.est.critical.latched ≡ true
     go true q =
-        let w : cond s.opened (some s.flight.battery) none ≡ some s.flight.battery = rw q in
+        let w : cond s.opened (Some s.flight.battery) None ≡ Some s.flight.battery = rw q in
         is_true _ (subst (λ (x : Option Battery). T (latch_of x)) (e ∙ w) h)
     go false q =
-        let w : cond s.opened (some s.flight.battery) none ≡ none = rw q in
+        let w : cond s.opened (Some s.flight.battery) None ≡ None = rw q in
         absurd (subst (λ (x : Option Battery). T (latch_of x)) (e ∙ w) h)
 
 latch_ticked : (b : Option Battery) (t : Tick) → T (latch_of b) → T (latch_of (ticked b t))
-latch_ticked none t h = h
-latch_ticked (some b) t h = subst T (sym (critical_stays b t.dt t.reading (is_true _ h))) tt
+latch_ticked None t h = h
+latch_ticked (Some b) t h = subst T (sym (critical_stays b t.dt t.reading (is_true _ h))) tt
 
 -- one call on: the phase goes on by an accepted tick, and the latch stays
 record On (k : ℕ) (m : Mode) (b : Option Battery) : Type 0 where
@@ -195,10 +192,10 @@ one_add k = omega arith
 on_accepted :
     (p : Place) (k : ℕ) (r : Request)
     → Holding p
-    → T (calm (some r))
+    → T (calm (Some r))
     → T (phase_of k p.supervisor.flight.fsm.mode)
     → T (latch_of p.battery)
-    → On (tick_count (some r) + k) (after_of p.supervisor r).flight.fsm.mode (next_battery p.battery (some r))
+    → On (tick_count (Some r) + k) (after_of p.supervisor r).flight.fsm.mode (next_battery p.battery (Some r))
 unfolding after_of flight_after
 on_accepted p k (opens o) i h f q = absurd h
 on_accepted p k (ticks t) i h f q =
@@ -224,7 +221,7 @@ on_seen :
     → T (phase_of k p.mode)
     → T (latch_of p.battery)
     → On (tick_count r + k) (next_mode p.mode a) (next_battery p.battery r)
-on_seen p k _ _ (refused n) i h f q = record { phase = rw (zero-add k, refused_mode p.supervisor p.mode n i.mode_is) f; latch = q }
+on_seen p k _ _ (refused n) i h f q = record { phase = rw (zero-add k, refused_mode p.supervisor p.mode n) f; latch = q }
 on_seen p k _ _ (accepts r e) i h f q =
     rw (accepted_mode (after_of p.supervisor r) p.mode (output_of p.supervisor.flight (legs_in p.supervisor) r))
     (on_accepted p k r i h (subst (λ (x : Mode). T (phase_of k x)) i.mode_is f) q)

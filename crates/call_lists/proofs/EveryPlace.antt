@@ -4,10 +4,11 @@ use native.Mathlib.Omega.{arith}
 use mathlib.Core.Bool.{true, cond}
 use mathlib.Core.List.{List, [], ◌∷◌}
 use mathlib.Core.Logic.{◌↔◌}
-use mathlib.Core.Option.{Option, none}
 use mathlib.Core.Path.{◌≡◌, refl, sym, ap, ◌∙◌, subst}
 use lib.Dec.{T, ltb}
 use lib.ListN.{length, get_or}
+use Rattle.std.specs.Prelude.{Option, None, Ok, Err}
+use Rattle.std.specs.Result.{result_ok}
 use Rattle.relay_fsm.specs.declared.Mode.{Mode}
 use Rattle.relay_fsm.specs.Mode.{is_airborne_of}
 use Rattle.relay_preflight.specs.Table.{outstanding_of}
@@ -28,14 +29,14 @@ use Rattle.falcon_core.proofs.Battery.{OwnPack, after_pack, unopened_pack, sound
 use Rattle.falcon_core.proofs.Due.{DueAirborne, after_due_airborne, due_unopened}
 use Rattle.falcon_core.proofs.Fits.{fits_step, fits_unopened}
 use Rattle.falcon_core.proofs.Numbers.{numbers_checks}
-use Rattle.requests.specs.Kinds.{Asked, refuses, asks, answered_by}
+use Rattle.requests.specs.Kinds.{Asked, answered_by}
 use Rattle.requests.specs.Parse.{asked_line}
 use Rattle.requests.specs.ByLine.{need_of, asked_with, line_step}
 use Rattle.requests.proofs.Buffer.{full_asked}
 use Rattle.requests.proofs.Lent.{LentAsked, line_lent}
 use Rattle.falcon_record.specs.Saved.{record_room}
 use Rattle.falcon_core.proofs.Parts.{cond_keeps}
-use Rattle.call_lists.specs.Lists.{Call, by_values, by_line, by_array, asked_of, call_step, accepted, requested, accepted_request, Place, place_after, next_place_of, place_from, place_at_of, start, LentCall, EachLent}
+use Rattle.call_lists.specs.Lists.{Call, by_values, by_line, by_array, asked_of, call_step, accepted, accepted_request, Place, place_after, next_place_of, place_from, place_at_of, start, LentCall, EachLent}
 use Rattle.call_lists.proofs.CallSeen.{Seen, refused, accepts, save_asked, seen}
 use Rattle.call_lists.proofs.PlaceHolds.{place_holding, start_holding}
 
@@ -45,24 +46,24 @@ use Rattle.call_lists.proofs.PlaceHolds.{place_holding, start_holding}
 pub line_is_values :
     (s : Supervisor) (line out : List ℕ) (r : Request)
     → need_of line ≤ length out
-    → asked_line line ≡ asks r
+    → asked_line line ≡ Ok r
     → (call_step s (by_line line out) ≡ call_step s (by_values r)) × (accepted_request s (by_line line out) ≡ accepted_request s (by_values r))
 unfolding call_step accepted_request line_step
 line_is_values s line out r h e =
-    let k : asked_with line out ≡ asks r = full_asked line out h ∙ e in
-    (ap (answered_by s) k, ap (λ (a : Asked). cond (accepted (answered_by s a)) (requested a) none) k)
+    let k : asked_with line out ≡ Ok r = full_asked line out h ∙ e in
+    (ap (answered_by s) k, ap (λ (a : Asked). cond (accepted (answered_by s a)) (result_ok a) None) k)
 
 -- ---- what every accepted call keeps
 
-module _ (P : Supervisor → Type 0) (keeps : (s : Supervisor) (r : Request) → P s → refusal_of s r ≡ 0 → P (after_of s r)) where
+module _ (P : Supervisor → Type 0) (keeps : (s : Supervisor) (r : Request) → P s → refusal_of s r ≡ None → P (after_of s r)) where
   asked_keeps : (s : Supervisor) (k : Asked) → P s → P (answered_by s k).supervisor
   unfolding refused_of
-  asked_keeps s (refuses n) h = h
-  asked_keeps s (asks r) h = step_keeps s r P h (keeps s r h)
+  asked_keeps s (Err n) h = h
+  asked_keeps s (Ok r) h = step_keeps s r P h (keeps s r h)
 
   call_keeps : (s : Supervisor) (c : Call) → P s → P (call_step s c).supervisor
   unfolding call_step line_step
-  call_keeps s (by_values r) h = asked_keeps s (asks r) h
+  call_keeps s (by_values r) h = asked_keeps s (Ok r) h
   call_keeps s (by_line line out) h = asked_keeps s (asked_of (by_line line out)) h
   call_keeps s (by_array a) h = rw (save_asked s a) (asked_keeps s (asked_of (by_array a)) h)
 
@@ -110,8 +111,8 @@ due_airborne l d =
 
 fits_asked : (s : Supervisor) (k : Asked) → LentAsked k → FitFlight s.flight s.waypoints → FitFlight (answered_by s k).supervisor.flight (answered_by s k).supervisor.waypoints
 unfolding refused_of
-fits_asked s (refuses n) l h = h
-fits_asked s (asks r) l h = fits_step s r l h
+fits_asked s (Err n) l h = h
+fits_asked s (Ok r) l h = fits_step s r l h
 
 fits_call : (s : Supervisor) (c : Call) → LentCall c → FitFlight s.flight s.waypoints → FitFlight (call_step s c).supervisor.flight (call_step s c).supervisor.waypoints
 unfolding call_step line_step
@@ -133,7 +134,7 @@ fits_place l e = fits_from start l e fits_unopened
 
 -- the count and the blocker of an answer are those of the state after it
 shown_checks : (s : Supervisor) (a : Answered) (k : Option Request) → Seen s a k
-    → (a.answer.outstanding ≡ outstanding_of a.supervisor.flight.check_table) × (a.answer.verdict ≡ first_blocker_of a.supervisor.flight.check_table)
+    → (a.answer.outstanding ≡ outstanding_of a.supervisor.flight.check_table) × (a.answer.blocker ≡ first_blocker_of a.supervisor.flight.check_table)
 unfolding refused_of accepted_of answer_of
 shown_checks s _ _ (refused n) = (refl, refl)
 shown_checks s _ _ (accepts r e) = (refl, refl)
@@ -148,7 +149,7 @@ none_outstanding l c =
     let columns = numbers_checks a.answer in
     let sound = (call_keeps (λ (u : Supervisor). SoundFlight u.flight u.waypoints) after_sound s c (sound_flight l)).checks in
     let none = outstanding_zero a.supervisor.flight.check_table sound.required_below (omega (arith, sound.passed_below)) in
-    let number = no_blocker_lem a.answer.verdict in (
+    let number = no_blocker_lem a.answer.blocker in (
       λ e. columns.1 ∙ number.1 (shown.1 ∙ none.0 (sym shown.0 ∙ sym columns.0 ∙ e)),
       λ e. columns.0 ∙ shown.0 ∙ none.1 (sym shown.1 ∙ number.0 (sym columns.1 ∙ e)),
     )

@@ -1,14 +1,15 @@
 -- What holds at every place of every list of calls. Assumes nothing.
-use Prim.Native.Nat.{ℕ, zero, suc, ◌+◌, ◌≤◌}
+use Prim.Native.Nat.{ℕ, suc, ◌+◌, ◌≤◌}
 use native.Mathlib.Omega.{arith}
 use native.Mathlib.Decide.{dec_le}
-use mathlib.Core.Bool.{Bool, true, false, cond, not, ◌&&◌, ◌||◌}
+use mathlib.Core.Bool.{Bool, true, false, cond, not, ◌&&◌}
 use mathlib.Core.List.{List, [], ◌∷◌}
 use mathlib.Core.Logic.{◌⊎◌, inl, inr, ⊎_elim}
-use mathlib.Core.Option.{Option, none, some}
 use mathlib.Core.Path.{◌≡◌, refl, sym, ap, ◌∙◌, subst}
-use lib.Dec.{T, leb, eqb-suc-zero}
+use lib.Dec.{T, leb}
 use borrow.Author.Tests.{le-leb}
+use mathlib.Core.Bool.{or-true}
+use Rattle.std.specs.Prelude.{Option, Some, None}
 use Rattle.relay_math.specs.Small.{saturating_add_of}
 use Rattle.relay_fsm.specs.declared.Mode.{Mode}
 use Rattle.relay_fsm.specs.declared.Mode.TheVariants.{Terminated}
@@ -27,6 +28,7 @@ use Rattle.falcon_core.specs.declared.supervisor.Supervisor.{Supervisor}
 use Rattle.falcon_failsafe.specs.declared.flight.FlightSupervisor.{FlightSupervisor}
 use Rattle.falcon_core.specs.declared.calls.Answered.{Answered}
 use Rattle.falcon_core.specs.declared.calls.Output.{Output}
+use Rattle.falcon_core.specs.declared.refusal.Refusal.{Refusal}
 use Rattle.falcon_guidance.specs.State.{zerof}
 use Rattle.falcon_failsafe.specs.Flight.{opened_of}
 use Rattle.falcon_core.specs.Supervisor.{unopened}
@@ -53,8 +55,8 @@ run (b ∷ l) = cond (tumbling b) (suc (run l)) 0
 -- what holds at a place
 pub record Holding (p : Place) : Type 0 where
   pub mode_is : p.mode ≡ p.supervisor.flight.fsm.mode
-  pub config_is : p.config ≡ cond p.supervisor.opened (some p.supervisor.flight.config) none
-  pub battery_is : p.battery ≡ cond p.supervisor.opened (some p.supervisor.flight.battery) none
+  pub config_is : p.config ≡ cond p.supervisor.opened (Some p.supervisor.flight.config) None
+  pub battery_is : p.battery ≡ cond p.supervisor.opened (Some p.supervisor.flight.battery) None
   pub shown_is : p.supervisor.flight.battery.state.critical ≡ p.supervisor.flight.battery.est.critical.latched
   pub count_is : p.supervisor.flight.counts.runaway_count ≡ run p.began
   pub capped : (run p.began + 1 ≤ tumbling_ticks) ⊎ ((run p.began ≡ tumbling_ticks) × (p.supervisor.flight.fsm.mode ≡ Terminated))
@@ -62,16 +64,15 @@ pub record Holding (p : Place) : Type 0 where
 
 -- ---- a refused call
 
-pub refused_mode : (s : Supervisor) (m : Mode) (n : ℕ) → m ≡ s.flight.fsm.mode → next_mode m (refused_of s n) ≡ m
+pub refused_mode : (s : Supervisor) (m : Mode) (e : Refusal) → next_mode m (refused_of s e) ≡ m
 unfolding refused_of answer_of
-refused_mode s m zero e = sym e
-refused_mode s m (suc n) e = rw (eqb-suc-zero n)
+refused_mode s m e = refl
 
-after_refused : (p : Place) (n : ℕ) → Holding p → Holding (place_after p (refused_of p.supervisor n) none)
+after_refused : (p : Place) (e : Refusal) → Holding p → Holding (place_after p (refused_of p.supervisor e) None)
 unfolding place_after refused_of
-after_refused p n i =
+after_refused p e i =
     record {
-      mode_is = refused_mode p.supervisor p.mode n i.mode_is ∙ i.mode_is;
+      mode_is = refused_mode p.supervisor p.mode e ∙ i.mode_is;
       config_is = i.config_is;
       battery_is = i.battery_is;
       shown_is = i.shown_is;
@@ -121,10 +122,6 @@ kept p s l i o g e c k t =
 
 -- ---- a tick
 
-or_true : (a : Bool) → (a || true) ≡ true
-or_true true = refl
-or_true false = refl
-
 -- Terminated is not airborne
 pub no_air : (m : Mode) (b : Bool) → m ≡ Terminated → (is_airborne_of m && b) ≡ true → ⊥
 no_air m b e h = subst (λ (x : Bool). T (not x)) (sym (ap (λ (x : Mode). is_airborne_of x && b) e) ∙ h) tt
@@ -134,7 +131,7 @@ report_terminated f failed e =
     is_mode→eq (reported_of f failed).fsm.mode Terminated
     (subst T (sym (report_ends f failed ∙ ap (λ (x : Mode). is_mode x Terminated) e)) tt)
 
-ticked_opened : (b : Option Battery) (x y : Battery) (t : Tick) (o : Bool) → y ≡ update_of x t.dt t.reading → b ≡ cond o (some x) none → ticked b t ≡ cond o (some y) none
+ticked_opened : (b : Option Battery) (x y : Battery) (t : Tick) (o : Bool) → y ≡ update_of x t.dt t.reading → b ≡ cond o (Some x) None → ticked b t ≡ cond o (Some y) None
 ticked_opened b x y t true e h = rw (h, e)
 ticked_opened b x y t false e h = rw h
 
@@ -182,7 +179,7 @@ module _ (p : Place) (t : Tick) (i : Holding p) where
   tick_terminates g h =
       let a : Mode = ticked_flight.fsm.mode in
       let q : leb tumbling_ticks (suc (run p.began)) ≡ true = le-leb tumbling_ticks (suc (run p.began)) h in
-      let e : is_mode a Terminated ≡ true = tick_ends flight (legs_in p.supervisor) t ∙ rw (one_more, enough_is (suc (run p.began)), q, g) (or_true (is_mode flight.fsm.mode Terminated)) in
+      let e : is_mode a Terminated ≡ true = tick_ends flight (legs_in p.supervisor) t ∙ rw (one_more, enough_is (suc (run p.began)), q, g) (or-true (is_mode flight.fsm.mode Terminated)) in
       is_mode→eq a Terminated (subst T (sym e) tt)
 
   tick_capped :
@@ -202,7 +199,7 @@ module _ (p : Place) (t : Tick) (i : Holding p) where
       (λ u. absurd (no_air flight.fsm.mode (tilted_of t) u.1 e))
       i.capped
 
-  after_tick : Holding (place_after p (accepted_of (after_of p.supervisor (ticks t)) (output_of flight (legs_in p.supervisor) (ticks t))) (some (ticks t)))
+  after_tick : Holding (place_after p (accepted_of (after_of p.supervisor (ticks t)) (output_of flight (legs_in p.supervisor) (ticks t))) (Some (ticks t)))
   unfolding place_after accepted_of answer_of after_of flight_after totals_after
   after_tick =
       record {
@@ -225,9 +222,9 @@ opened_shown cfg = ap (λ (x : BattState). x.critical) (opened_state cfg) ∙ no
 -- an accepted call
 after_accepted :
     (p : Place) (r : Request)
-    → refusal_of p.supervisor r ≡ 0
+    → refusal_of p.supervisor r ≡ None
     → Holding p
-    → Holding (place_after p (accepted_of (after_of p.supervisor r) (output_of p.supervisor.flight (legs_in p.supervisor) r)) (some r))
+    → Holding (place_after p (accepted_of (after_of p.supervisor r) (output_of p.supervisor.flight (legs_in p.supervisor) r)) (Some r))
 unfolding place_after accepted_of answer_of after_of flight_after totals_after run
 after_accepted p (opens o) e i =
     let k = start_sound p.supervisor o e in

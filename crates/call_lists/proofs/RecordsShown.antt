@@ -1,13 +1,13 @@
 -- The columns of the state over every list of calls whose lent floats are f32 values.
 use Prim.Native.Nat.{ℕ, ◌≤◌, ◌<◌, ◌^◌}
-use native.Mathlib.Omega.{arith}
 use mathlib.Core.Bool.{Bool, true, false, cond}
 use mathlib.Core.List.{List, [], ◌∷◌, ◌++◌}
-use mathlib.Core.Option.{none, some}
 use mathlib.Core.Path.{◌≡◌, refl, sym, ap, ◌∙◌, subst}
 use borrow.Author.Tests.{ltb-false}
 use lib.Dec.{ltb, lit≤}
 use lib.ListN.{length}
+use Rattle.std.specs.Prelude.{Some, None, Ok, Err}
+use Rattle.std.specs.Result.{result_ok}
 use Rattle.columns.specs.Line.{InRange, line_of, over}
 use Rattle.falcon_guidance.specs.State.{max_waypoints}
 use Rattle.falcon_totals.specs.declared.DayTotals.{DayTotals}
@@ -16,7 +16,7 @@ use Rattle.falcon_core.specs.declared.supervisor.Supervisor.{Supervisor}
 use Rattle.falcon_core.specs.declared.calls.Answered.{Answered}
 use Rattle.falcon_core.specs.declared.calls.Output.TheVariants.{Record}
 use Rattle.falcon_core.specs.Calls.{Request, plans, saves, answer_of, accepted_of, numbers_of}
-use Rattle.falcon_core.specs.Refusals.{short_buffer_of}
+use Rattle.falcon_core.specs.declared.refusal.Refusal.TheVariants.{ShortBuffer}
 use Rattle.falcon_core.proofs.Answers.{step_accepted, in_sequence, tells_state, told_output}
 use Rattle.falcon_core.proofs.Refused.{accepted_passed, told_keeps}
 use Rattle.falcon_record.specs.Form.{Form}
@@ -28,11 +28,11 @@ use Rattle.falcon_record.proofs.Back.{record_back_lem, columns_same}
 use Rattle.falcon_record.proofs.Forms.{line_back, carries}
 use Rattle.falcon_record.proofs.Saving.{record_fits}
 use Rattle.falcon_record.proofs.Reached.{after_wind_lem, unopened_wind, totals_below}
-use Rattle.requests.specs.Kinds.{Asked, refuses, asks, answered_by}
+use Rattle.requests.specs.Kinds.{Asked, answered_by}
 use Rattle.requests.specs.Parse.{asked_line}
 use Rattle.requests.specs.ByLine.{need_of, asked_with, line_step, extra_of}
 use Rattle.requests.proofs.ToldLines.{told_over}
-use Rattle.call_lists.specs.Lists.{Call, by_values, by_line, by_array, asked_of, Place, accepted, requested, accepted_request, call_step, place_after, next_place_of, answers_from, lent_after, lent_from, place_at_of, start, EachLent}
+use Rattle.call_lists.specs.Lists.{Call, by_values, by_line, by_array, asked_of, Place, accepted, accepted_request, call_step, place_after, next_place_of, answers_from, lent_after, lent_from, place_at_of, start, EachLent}
 use Rattle.call_lists.specs.Records.{written_by, lent_with, ReadBack, RecordBack, WrittenAlike}
 use Rattle.call_lists.proofs.CallSeen.{seen}
 use Rattle.call_lists.proofs.ToldSeen.{Told, told_seen}
@@ -53,7 +53,7 @@ kept_place l e =
 
 -- ---- an accepted call for the state
 
-module _ (s : Supervisor) (c : Call) (e : accepted_request s c ≡ some (plans saves)) where
+module _ (s : Supervisor) (c : Call) (e : accepted_request s c ≡ Some (plans saves)) where
   told : Told s saves (call_step s c)
   told = told_seen s saves _ _ (seen s c) e
 
@@ -66,10 +66,10 @@ module _ (s : Supervisor) (c : Call) (e : accepted_request s c ≡ some (plans s
   saved_keeps : (call_step s c).supervisor ≡ s
   saved_keeps = ap (λ (a : Answered). a.supervisor) told.is ∙ told_keeps s saves Record tells_state
 
-  saved_output : (call_step s c).answer.output ≡ Record
+  saved_output : (call_step s c).answer.outcome ≡ Ok Record
   unfolding accepted_of answer_of
   saved_output =
-      ap (λ (a : Answered). a.answer.output) (told.is ∙ step_accepted s (plans saves) told.fits) ∙ told_output s saves Record tells_state
+      ap (λ (a : Answered). a.answer.outcome) (told.is ∙ step_accepted s (plans saves) told.fits) ∙ ap Ok (told_output s saves Record tells_state)
 
   -- and writes its columns
   pub saved_columns : written_by s c ≡ columns_of s
@@ -79,21 +79,21 @@ module _ (s : Supervisor) (c : Call) (e : accepted_request s c ≡ some (plans s
 -- ---- where the columns stand
 
 -- what is accepted was asked
-accepted_asked : (b : Bool) (k : Asked) (r : Request) → cond b (requested k) none ≡ some r → (b ≡ true) × (k ≡ asks r)
-accepted_asked false k r e = absurd (let z : ◌≡◌ {A = ℕ} 0 1 = cc in omega arith)
-accepted_asked true (refuses n) r e = absurd (let z : ◌≡◌ {A = ℕ} 0 1 = cc in omega arith)
-accepted_asked true (asks x) r e = (refl, (cc))
+accepted_asked : (b : Bool) (k : Asked) (r : Request) → cond b (result_ok k) None ≡ Some r → (b ≡ true) × (k ≡ Ok r)
+accepted_asked false k r e = cc
+accepted_asked true (Err n) r e = cc
+accepted_asked true (Ok x) r e = (refl, (cc))
 
 -- and with room
-asked_room : (line out : List ℕ) (r : Request) → asked_with line out ≡ asks r → (asked_line line ≡ asks r) × (need_of line ≤ length out)
+asked_room : (line out : List ℕ) (r : Request) → asked_with line out ≡ Ok r → (asked_line line ≡ Ok r) × (need_of line ≤ length out)
 unfolding asked_with
 asked_room line out r e = go (ltb (length out) (need_of line)) refl e
   where
-    go : (b : Bool) → ltb (length out) (need_of line) ≡ b → cond b (refuses short_buffer_of) (asked_line line) ≡ asks r → (asked_line line ≡ asks r) × (need_of line ≤ length out)
-    go true q h = absurd (let z : ◌≡◌ {A = ℕ} 0 1 = cc in omega arith)
+    go : (b : Bool) → ltb (length out) (need_of line) ≡ b → cond b (Err ShortBuffer) (asked_line line) ≡ Ok r → (asked_line line ≡ Ok r) × (need_of line ≤ length out)
+    go true q h = cc
     go false q h = (h, ltb-false (length out) (need_of line) q)
 
-columns_lent : (s : Supervisor) (c : Call) → accepted_request s c ≡ some (plans saves) → lent_after s c ≡ lent_with c (call_step s c).answer (columns_of s)
+columns_lent : (s : Supervisor) (c : Call) → accepted_request s c ≡ Some (plans saves) → lent_after s c ≡ lent_with c (call_step s c).answer (columns_of s)
 unfolding lent_after lent_with accepted_request call_step line_step saved_over extra_of
 columns_lent s (by_values r) e = refl
 columns_lent s (by_line line out) e =

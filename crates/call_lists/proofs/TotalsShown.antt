@@ -2,6 +2,7 @@
 use Prim.Native.Nat.{ℕ}
 use mathlib.Core.List.{List, [], ◌∷◌, ◌++◌, map}
 use mathlib.Core.Path.{◌≡◌, refl, ap, ◌∙◌}
+use Rattle.std.specs.Prelude.{Ok, Err}
 use Rattle.falcon_totals.specs.declared.DayTotals.{DayTotals}
 use Rattle.falcon_totals.specs.Totals.{totals_numbers}
 use Rattle.falcon_core.specs.declared.supervisor.Supervisor.{Supervisor}
@@ -11,7 +12,7 @@ use Rattle.falcon_core.specs.Calls.{totals, answer_of, refused_of, numbers_of}
 use Rattle.falcon_core.proofs.Answers.{tells_totals}
 use Rattle.falcon_totals.proofs.Counting.{numbers_are}
 use Rattle.falcon_core.proofs.Totals.{with_totals, totals_apart}
-use Rattle.requests.specs.Kinds.{Asked, refuses, asks, answered_by}
+use Rattle.requests.specs.Kinds.{Asked, answered_by}
 use Rattle.requests.specs.ByLine.{asked_with, line_step, extra_of}
 use Rattle.call_lists.specs.Lists.{Call, by_values, by_line, by_array, asked_of, Place, call_step, place_after, next_place_of, answers_from, place_at_of, start}
 use Rattle.call_lists.specs.DayTotals.{DayTotalsShown}
@@ -34,12 +35,12 @@ Beside s u = u ≡ with_totals s u.totals
 
 asked_apart : (s : Supervisor) (t : DayTotals) (k : Asked) → ((answered_by (with_totals s t) k).answer ≡ (answered_by s k).answer) × Beside (answered_by s k).supervisor (answered_by (with_totals s t) k).supervisor
 unfolding refused_of answer_of
-asked_apart s t (refuses n) = (refl, refl)
-asked_apart s t (asks r) = totals_apart s t r
+asked_apart s t (Err n) = (refl, refl)
+asked_apart s t (Ok r) = totals_apart s t r
 
 call_apart : (s u : Supervisor) (c : Call) → Beside s u → ((call_step u c).answer ≡ (call_step s c).answer) × Beside (call_step s c).supervisor (call_step u c).supervisor
 unfolding call_step line_step
-call_apart s u (by_values r) e = rw e (asked_apart s u.totals (asks r))
+call_apart s u (by_values r) e = rw e (asked_apart s u.totals (Ok r))
 call_apart s u (by_line line out) e = rw e (asked_apart s u.totals (asked_with line out))
 call_apart s u (by_array a) e = rw (save_asked s a, save_asked u a, e) (asked_apart s u.totals (asked_of (by_array a)))
 

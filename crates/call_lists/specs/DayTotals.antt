@@ -1,6 +1,5 @@
 -- U1's claim about every list of calls.
-use Rattle.std.specs.Prelude.{List, ◌++◌, ◌≡◌}
-use Rattle.std.proofs.Math.Option.{some}
+use Rattle.std.specs.Prelude.{List, ◌++◌, ◌≡◌, Some}
 use Rattle.falcon_totals.specs.Counts.{counts_of}
 use Rattle.falcon_core.specs.Calls.{plans, totals, numbers_of}
 use Rattle.requests.specs.ByLine.{reply_numbers}
@@ -12,5 +11,5 @@ abbrev pub DayTotalsShown : Type 0
 DayTotalsShown =
     (here : List Call) (c : Call) →
     let s = (place_at_of here).supervisor in
-    accepted_request s c ≡ some (plans totals) →
+    accepted_request s c ≡ Some (plans totals) →
     reply_numbers (call_step s c) ≡ numbers_of (call_step s c).answer ++ counts_of (place_at_of here).counted

@@ -1,6 +1,5 @@
 -- Demand 3: one claim about every list of calls.
-use Rattle.std.specs.Prelude.{ℕ, zero, suc, ◌≤◌, Bool, true, false, ◌&&◌, List, [], ◌∷◌, ◌++◌, ◌⊎◌, ◌↔◌, ◌≢◌, ◌≡◌, T, Float}
-use Rattle.std.proofs.Math.Option.{some}
+use Rattle.std.specs.Prelude.{ℕ, zero, suc, ◌≤◌, Bool, true, false, ◌&&◌, List, [], ◌∷◌, ◌++◌, ◌⊎◌, ◌↔◌, ◌≢◌, ◌≡◌, T, Float, Some}
 use Rattle.std.specs.Float.{binary32}
 use Rattle.std.specs.Float.Ieee.{of_bits, neg, lt}
 use Rattle.relay_fsm.specs.declared.Mode.TheVariants.{Disarmed, Terminated}
@@ -53,7 +52,7 @@ TwoTicks here further =
 -- "save a tick with height under 0.15 m that goes to Disarmed through Land"
 pub record Landed (here : Place) (c : Call) : Type 0 where
   pub tick : Tick
-  pub is_tick_lem : accepted_request here.supervisor c ≡ some (ticks tick)
+  pub is_tick_lem : accepted_request here.supervisor c ≡ Some (ticks tick)
   pub low : T (under_ground tick)
   pub disarmed : (next_place_of here c).mode ≡ Disarmed
   pub through_land : T (through_land_of here.supervisor.flight (legs_in here.supervisor) tick)
@@ -67,7 +66,7 @@ RankKept here c = T (calm (accepted_request here.supervisor c)) → (rank_of her
 abbrev pub FiftyTicks : Place → Call → Type 0
 FiftyTicks here c =
     (t : Tick) →
-    accepted_request here.supervisor c ≡ some (ticks t) →
+    accepted_request here.supervisor c ≡ Some (ticks t) →
     ((here.mode ≢ Terminated) × ((next_place_of here c).mode ≡ Terminated)) ↔ T (tumbling_for tumbling_ticks (next_place_of here c).began)
 
 -- all three at every place of a list of calls, first call first, from the state with no opening

@@ -1,6 +1,6 @@
 -- Lists of calls: what document 01's section of that name speaks of. A place is what the calls before it have made.
-use Rattle.std.specs.Prelude.{ℕ, ◌+◌, Bool, true, false, cond, ◌&&◌, List, [], ◌∷◌, eqb, ltb, length}
-use Rattle.std.proofs.Math.Option.{Option, none, some}
+use Rattle.std.specs.Prelude.{ℕ, ◌+◌, Bool, true, false, cond, ◌&&◌, List, [], ◌∷◌, ltb, length, Option, Some, None, Ok, Err, is_ok}
+use Rattle.std.specs.Result.{result_ok}
 use Rattle.relay_fsm.specs.declared.Mode.{Mode}
 use Rattle.relay_fsm.specs.declared.Mode.TheVariants.{Disarmed}
 use Rattle.relay_batt.specs.declared.battery.Battery.{Battery}
@@ -12,9 +12,9 @@ use Rattle.falcon_core.specs.declared.supervisor.Supervisor.{Supervisor}
 use Rattle.falcon_core.specs.declared.calls.Answered.{Answered}
 use Rattle.falcon_core.specs.Supervisor.{unopened}
 use Rattle.falcon_core.specs.Calls.{Request, opens, ticks, reports, commands, plans, saves, start_of, step_of}
-use Rattle.falcon_core.specs.Refusals.{short_buffer_of}
+use Rattle.falcon_core.specs.declared.refusal.Refusal.TheVariants.{ShortBuffer}
 use Rattle.falcon_core.specs.SoundState.{Lent}
-use Rattle.requests.specs.Kinds.{Asked, refuses, asks}
+use Rattle.requests.specs.Kinds.{Asked}
 use Rattle.falcon_record.specs.Saved.{record_room, save_step, saved_over}
 use Rattle.requests.specs.ByLine.{asked_with, line_step, buffer_after}
 
@@ -26,9 +26,9 @@ pub data Call : Type 0 where
 
 -- what a call asks, or the refusal that fits it whatever the state
 abbrev pub asked_of : Call → Asked
-asked_of (by_values r) = asks r
+asked_of (by_values r) = Ok r
 asked_of (by_line line out) = asked_with line out
-asked_of (by_array a) = cond (ltb (length a) record_room) (refuses short_buffer_of) (asks (plans saves))
+asked_of (by_array a) = cond (ltb (length a) record_room) (Err ShortBuffer) (Ok (plans saves))
 
 -- the state after a call and its answer: the definition by which `answer` and the calls by values are stated
 unfoldable pub call_step : Supervisor → Call → Answered
@@ -44,16 +44,11 @@ lent_after s (by_array a) = saved_over s a
 
 -- "Accepted means that the refusal answered is 0."
 abbrev pub accepted : Answered → Bool
-accepted a = eqb a.answer.refusal 0
-
--- what is asked, where nothing is refused whatever the state
-abbrev pub requested : Asked → Option Request
-requested (refuses n) = none
-requested (asks r) = some r
+accepted a = is_ok a.answer.outcome
 
 -- what a call asks, if it is accepted
 unfoldable pub accepted_request : Supervisor → Call → Option Request
-accepted_request s c = cond (accepted (call_step s c)) (requested (asked_of c)) none
+accepted_request s c = cond (accepted (call_step s c)) (result_ok (asked_of c)) None
 
 -- an accepted tick and the mode that it began in
 pub record Began : Type 0 where
@@ -74,46 +69,46 @@ pub record Place : Type 0 where
 abbrev pub next_mode : Mode → Answered → Mode
 next_mode m a = cond (accepted a) a.answer.mode m
 
--- the configuration that the latest accepted opening sets, none before one
+-- the configuration that the latest accepted opening sets, None before one
 abbrev pub next_config : Option Config → Option Request → Option Config
-next_config c none = c
-next_config c (some (opens o)) = some (start_of o).config
-next_config c (some (ticks t)) = c
-next_config c (some (reports failed)) = c
-next_config c (some (commands ev level low)) = c
-next_config c (some (plans p)) = c
+next_config c None = c
+next_config c (Some (opens o)) = Some (start_of o).config
+next_config c (Some (ticks t)) = c
+next_config c (Some (reports failed)) = c
+next_config c (Some (commands ev level low)) = c
+next_config c (Some (plans p)) = c
 
 -- the battery run over one accepted tick's dt and reading
 abbrev pub ticked : Option Battery → Tick → Option Battery
-ticked none t = none
-ticked (some b) t = some (update_of b t.dt t.reading)
+ticked None t = None
+ticked (Some b) t = Some (update_of b t.dt t.reading)
 
 -- "starting from what the latest accepted opening sets and run over dt and reading of each accepted tick since"
 abbrev pub next_battery : Option Battery → Option Request → Option Battery
-next_battery b none = b
-next_battery b (some (opens o)) = some (start_of o).battery
-next_battery b (some (ticks t)) = ticked b t
-next_battery b (some (reports failed)) = b
-next_battery b (some (commands ev level low)) = b
-next_battery b (some (plans p)) = b
+next_battery b None = b
+next_battery b (Some (opens o)) = Some (start_of o).battery
+next_battery b (Some (ticks t)) = ticked b t
+next_battery b (Some (reports failed)) = b
+next_battery b (Some (commands ev level low)) = b
+next_battery b (Some (plans p)) = b
 
 -- "A tick begins in the mode before it"; "all since the latest accepted opening"
 abbrev pub next_began : Mode → List Began → Option Request → List Began
-next_began m l none = l
-next_began m l (some (opens o)) = []
-next_began m l (some (ticks t)) = record { mode = m; tick = t } ∷ l
-next_began m l (some (reports failed)) = l
-next_began m l (some (commands ev level low)) = l
-next_began m l (some (plans p)) = l
+next_began m l None = l
+next_began m l (Some (opens o)) = []
+next_began m l (Some (ticks t)) = record { mode = m; tick = t } ∷ l
+next_began m l (Some (reports failed)) = l
+next_began m l (Some (commands ev level low)) = l
+next_began m l (Some (plans p)) = l
 
 -- U1: accepted ticks, reports and commands "since the opening", each with the mode that it began in and the one that it ended in
 abbrev pub next_counted : Mode → Mode → List Counted → Option Request → List Counted
-next_counted m n l none = l
-next_counted m n l (some (opens o)) = []
-next_counted m n l (some (ticks t)) = record { ticked = true; began = m; ended = n } ∷ l
-next_counted m n l (some (reports failed)) = record { ticked = false; began = m; ended = n } ∷ l
-next_counted m n l (some (commands ev level low)) = record { ticked = false; began = m; ended = n } ∷ l
-next_counted m n l (some (plans p)) = l
+next_counted m n l None = l
+next_counted m n l (Some (opens o)) = []
+next_counted m n l (Some (ticks t)) = record { ticked = true; began = m; ended = n } ∷ l
+next_counted m n l (Some (reports failed)) = record { ticked = false; began = m; ended = n } ∷ l
+next_counted m n l (Some (commands ev level low)) = record { ticked = false; began = m; ended = n } ∷ l
+next_counted m n l (Some (plans p)) = l
 
 -- the place after a call with this answer, which accepted this request, if any
 unfoldable pub place_after : Place → Answered → Option Request → Place
@@ -148,7 +143,7 @@ lent_from p (c ∷ l) = lent_after p.supervisor c ∷ lent_from (next_place_of p
 
 -- "The first call gets the state with no opening": the place before the first call
 unfoldable pub start : Place
-start = record { supervisor = unopened; mode = Disarmed; config = none; battery = none; began = []; counted = [] }
+start = record { supervisor = unopened; mode = Disarmed; config = None; battery = None; began = []; counted = [] }
 
 -- the place after these calls
 abbrev pub place_at_of : List Call → Place
@@ -156,8 +151,8 @@ place_at_of l = place_from start l
 
 -- "The critical battery latch at a place"; "before an opening it is not set"
 abbrev pub latch_of : Option Battery → Bool
-latch_of none = false
-latch_of (some b) = b.est.critical.latched
+latch_of None = false
+latch_of (Some b) = b.est.critical.latched
 
 -- the floats lent by values are f32 values: in definitions a float may be one that no f32 holds. A line gives bits
 abbrev pub LentCall : Call → Type 0
@@ -172,12 +167,12 @@ EachLent (c ∷ l) = LentCall c × EachLent l
 
 -- no accepted opening and no accepted command
 abbrev pub calm : Option Request → Bool
-calm none = true
-calm (some (opens o)) = false
-calm (some (ticks t)) = true
-calm (some (reports failed)) = true
-calm (some (commands ev level low)) = false
-calm (some (plans p)) = true
+calm None = true
+calm (Some (opens o)) = false
+calm (Some (ticks t)) = true
+calm (Some (reports failed)) = true
+calm (Some (commands ev level low)) = false
+calm (Some (plans p)) = true
 
 -- "no command or opening is accepted" among the calls after a place
 unfoldable pub calm_from : Place → List Call → Bool
@@ -186,12 +181,12 @@ calm_from p (c ∷ l) = calm (accepted_request p.supervisor c) && calm_from (nex
 
 -- 1 for an accepted tick
 abbrev pub tick_count : Option Request → ℕ
-tick_count none = 0
-tick_count (some (opens o)) = 0
-tick_count (some (ticks t)) = 1
-tick_count (some (reports failed)) = 0
-tick_count (some (commands ev level low)) = 0
-tick_count (some (plans p)) = 0
+tick_count None = 0
+tick_count (Some (opens o)) = 0
+tick_count (Some (ticks t)) = 1
+tick_count (Some (reports failed)) = 0
+tick_count (Some (commands ev level low)) = 0
+tick_count (Some (plans p)) = 0
 
 -- the accepted ticks among the calls after a place
 unfoldable pub ticks_from : Place → List Call → ℕ

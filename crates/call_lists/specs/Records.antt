@@ -1,7 +1,6 @@
 -- U2's claims about every list of calls.
-use Rattle.std.specs.Prelude.{ℕ, ◌≤◌, List, [], ◌++◌, ◌≡◌}
-use Rattle.std.proofs.Math.Option.{some}
-use Rattle.columns.specs.Line.{read, read_within, line_of, over}
+use Rattle.std.specs.Prelude.{ℕ, ◌≤◌, List, [], ◌++◌, ◌≡◌, Some}
+use Rattle.columns.specs.Line.{read_within, line_of, over}
 use Rattle.falcon_guidance.specs.State.{max_waypoints}
 use Rattle.falcon_core.specs.declared.supervisor.Supervisor.{Supervisor}
 use Rattle.falcon_core.specs.declared.calls.Answer.{Answer}
@@ -15,7 +14,7 @@ use Rattle.call_lists.specs.Lists.{Call, by_values, by_line, by_array, accepted_
 
 -- the columns of an accepted call for the state
 abbrev pub written_by : Supervisor → Call → List ℕ
-written_by s c = extra_of (call_step s c).supervisor (call_step s c).answer.output
+written_by s c = extra_of (call_step s c).supervisor (call_step s c).answer.outcome
 
 -- the memory lent for writing with these columns: by line "on the same line after its ordinary answer", a line of kind 9 as it stands; by values at the array's
 -- start. "Bytes after it are untouched"
@@ -28,7 +27,7 @@ lent_with (by_array a) answer columns = over columns a
 -- from the columns of every form that has a place for each point
 pub record ReadBack (s : Supervisor) (c : Call) (columns : List ℕ) : Type 0 where
   pub lent : lent_after s c ≡ lent_with c (call_step s c).answer columns
-  pub line : read_within record_room (line_of columns) ≡ read columns
+  pub line : read_within record_room (line_of columns) ≡ Some columns
   pub state : record_from written_form columns ≡ s
   pub forms : (form : Form) → max_waypoints ≤ form.places → record_from form (columns_in form s) ≡ s
 
@@ -38,7 +37,7 @@ RecordBack =
     (here : List Call) (c : Call) →
     EachLent here →
     let s = (place_at_of here).supervisor in
-    accepted_request s c ≡ some (plans saves) →
+    accepted_request s c ≡ Some (plans saves) →
     ReadBack s c (written_by s c)
 
 -- "two shuttles that write the same columns answer every later list of calls alike": answers, states and all memory lent for writing
@@ -49,8 +48,8 @@ WrittenAlike =
     EachLent there →
     let s = (place_at_of here).supervisor in
     let u = (place_at_of there).supervisor in
-    accepted_request s c ≡ some (plans saves) →
-    accepted_request u d ≡ some (plans saves) →
+    accepted_request s c ≡ Some (plans saves) →
+    accepted_request u d ≡ Some (plans saves) →
     written_by s c ≡ written_by u d →
     (later : List Call) →
     (answers_from (next_place_of (place_at_of here) c) later ≡ answers_from (next_place_of (place_at_of there) d) later)

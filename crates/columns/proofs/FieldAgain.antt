@@ -1,10 +1,8 @@
 -- A field that is written is read as its number, and a field that is read is the one that is written. Assumes nothing.
-use Rattle.std.proofs.Common.{◌≡◌, ℕ, zero, suc, ◌+◌, ◌-◌, ◌*◌, ◌/◌, ◌%◌, ◌^◌, ◌<◌, ◌≤◌, List, [], ◌∷◌, ◌++◌, length, sym, refl, ap, ◌∙◌, append_assoc, append-nil, add-zero, mul_assoc, mul_comm, pow-suc, add-one, arith, length-append, le-ltb, lt-ltb, eq-eqb, ne_eqb, le-leb}
+use Rattle.std.proofs.Common.{◌≡◌, ℕ, zero, suc, ◌+◌, ◌-◌, ◌*◌, ◌/◌, ◌%◌, ◌^◌, ◌<◌, ◌≤◌, List, [], ◌∷◌, ◌++◌, length, sym, refl, ap, ◌∙◌, append_assoc, append-nil, add-zero, mul_assoc, mul_comm, pow-suc, add-one, arith, length-append, le-ltb, lt-ltb, eq-eqb, ne_eqb, le-leb, Option, Some}
 use native.Mathlib.Decide.{ℕ_discrete, dec_le, dec_lt}
 use lib.ListN.{replicate-append-replicate}
 use borrow.Author.Tests.{lt-leb}
-use Rattle.columns.specs.declared.field.FieldRead.{FieldRead}
-use Rattle.columns.specs.declared.field.FieldRead.TheVariants.{Number, Bad}
 use Rattle.columns.specs.Field.{field_width, number_limit, space, in_range, digits, start, spaced, field_read, column, columns, field_of, spaces}
 
 -- one decimal digit more
@@ -13,7 +11,7 @@ unfolding digits
 digits_more v b s low high = simp (le-leb 48 b low, le-leb b 57 high)
 
 -- a number in range is itself
-pub in_range_lem : (v : ℕ) → v < number_limit → in_range v ≡ Number v
+pub in_range_lem : (v : ℕ) → v < number_limit → in_range v ≡ Some v
 unfolding in_range
 in_range_lem v h = simp (lt-ltb v number_limit h)
 
@@ -121,7 +119,7 @@ columns_last k n h =
     ]
 
 -- "Sheet numbers written are the numbers read again", of one field
-pub read_written : (n : ℕ) → n < 2 ^ 32 → field_read (field_of n) ≡ Number n
+pub read_written : (n : ℕ) → n < 2 ^ 32 → field_read (field_of n) ≡ Some n
 unfolding field_read field_of digits
 read_written n h =
     simp (eq-eqb (length (field_of n)) field_width (length_field n))
@@ -129,39 +127,35 @@ read_written n h =
 
 -- ---- the other way
 
--- Bad is no number
-pub bad_never : {P : Type 0} (n : ℕ) → ◌≡◌ {A = FieldRead} Bad (Number n) → P
-bad_never n h = let z : ◌≡◌ {A = ℕ} 0 1 = cc in absurd (omega arith)
-
 -- what a range test lets through
-range_is : (v n : ℕ) → in_range v ≡ Number n → (v ≡ n) × (v < number_limit)
+range_is : (v n : ℕ) → in_range v ≡ Some n → (v ≡ n) × (v < number_limit)
 unfolding in_range
 range_is v n h =
     elim (dec_lt v number_limit) [
-      | yes p ↦ let e : ◌≡◌ {A = FieldRead} (Number v) (Number n) = simp (lt-ltb v number_limit p) at h in (cc, p)
-      | no q ↦ bad_never n (simp (le-ltb v number_limit (omega arith)) at h)
+      | yes p ↦ let e : ◌≡◌ {A = Option ℕ} (Some v) (Some n) = simp (lt-ltb v number_limit p) at h in (cc, p)
+      | no q ↦ cc (simp (le-ltb v number_limit (omega arith)) at h)
     ]
 
 -- a byte that was read as one of the digits is one
 record Digit (v b : ℕ) (s : List ℕ) (n : ℕ) : Type 0 where
   low : 48 ≤ b
   high : b ≤ 57
-  next : digits (v * 10 + (b - 48)) s ≡ Number n
+  next : digits (v * 10 + (b - 48)) s ≡ Some n
 
-digit_is : (v b : ℕ) (s : List ℕ) (n : ℕ) → digits v (b ∷ s) ≡ Number n → Digit v b s n
+digit_is : (v b : ℕ) (s : List ℕ) (n : ℕ) → digits v (b ∷ s) ≡ Some n → Digit v b s n
 unfolding digits
 digit_is v b s n h =
     elim (dec_le 48 b) [
       | yes low ↦
           elim (dec_le b 57) [
             | yes high ↦ record { low = low; high = high; next = sym (digits_more v b s low high) ∙ h }
-            | no q ↦ bad_never n (simp (le-leb 48 b low, lt-leb b 57 (omega arith)) at h)
+            | no q ↦ cc (simp (le-leb 48 b low, lt-leb b 57 (omega arith)) at h)
           ]
-      | no q ↦ bad_never n (simp (lt-leb 48 b (omega arith)) at h)
+      | no q ↦ cc (simp (lt-leb 48 b (omega arith)) at h)
     ]
 
 -- digits that write n, after others that gave v
-pub digits_after : (v u : ℕ) (s : List ℕ) (n : ℕ) → digits u s ≡ Number n → digits (v + u) s ≡ in_range (v * 10 ^ length s + n)
+pub digits_after : (v u : ℕ) (s : List ℕ) (n : ℕ) → digits u s ≡ Some n → digits (v + u) s ≡ in_range (v * 10 ^ length s + n)
 unfolding digits
 digits_after v u [] n h = let e : v + u ≡ v * 1 + n = let r = (range_is u n h).0 in omega arith in ap in_range e
 digits_after v u (b ∷ s) n h =
@@ -175,7 +169,7 @@ digits_after v u (b ∷ s) n h =
     ∙ ap (λ (m : ℕ). in_range (m + n)) p
 
 -- a number that was read is in range, and no less than its first digits
-digits_range : (v : ℕ) (s : List ℕ) (n : ℕ) → digits v s ≡ Number n → (v ≤ n) × (n < number_limit)
+digits_range : (v : ℕ) (s : List ℕ) (n : ℕ) → digits v s ≡ Some n → (v ≤ n) × (n < number_limit)
 unfolding digits
 digits_range v [] n h = let r : (v ≡ n) × (v < number_limit) = range_is v n h in (omega arith, omega arith)
 digits_range v (b ∷ s) n h =
@@ -184,7 +178,7 @@ digits_range v (b ∷ s) n h =
     (omega arith, r.1)
 
 -- the columns so far and the digits to come are the number's columns
-wrote_digits : (j v : ℕ) (s : List ℕ) (n : ℕ) → 0 < v → digits v s ≡ Number n → columns j v ++ s ≡ columns (j + length s) n
+wrote_digits : (j v : ℕ) (s : List ℕ) (n : ℕ) → 0 < v → digits v s ≡ Some n → columns j v ++ s ≡ columns (j + length s) n
 unfolding digits
 wrote_digits j v [] n low h =
     append-nil (columns j v) ∙ ap (λ (k : ℕ). columns k v) (sym (add-zero j)) ∙ ap (λ (m : ℕ). columns (j + 0) m) (range_is v n h).0
@@ -205,7 +199,7 @@ wide : ℕ → ℕ → List ℕ
 wide k n = columns k (n / 10) ++ ((48 + n % 10) ∷ [])
 
 -- spaces and one digit
-wrote_single : (j b n : ℕ) → digits 0 (b ∷ []) ≡ Number n → spaces j ++ (b ∷ []) ≡ wide j n
+wrote_single : (j b n : ℕ) → digits 0 (b ∷ []) ≡ Some n → spaces j ++ (b ∷ []) ≡ wide j n
 unfolding digits wide
 wrote_single j b n h =
     let d : Digit 0 b [] n = digit_is 0 b [] n h in
@@ -217,7 +211,7 @@ wrote_single j b n h =
     ∙ ap (λ (c : ℕ). columns j (n / 10) ++ (c ∷ [])) ones
 
 -- spaces and several digits, the first not 0
-wrote_several : (j b : ℕ) (s : List ℕ) (n : ℕ) → (b ≡ 48 → ⊥) → digits 0 (b ∷ s) ≡ Number n → spaces j ++ (b ∷ s) ≡ wide (j + length s) n
+wrote_several : (j b : ℕ) (s : List ℕ) (n : ℕ) → (b ≡ 48 → ⊥) → digits 0 (b ∷ s) ≡ Some n → spaces j ++ (b ∷ s) ≡ wide (j + length s) n
 unfolding wide
 wrote_several j b s n q h =
     let d : Digit 0 b s n = digit_is 0 b s n h in
@@ -235,18 +229,18 @@ wrote_several j b s n q h =
     ∙ sym (append-nil (columns (suc (j + length s)) n))
     ∙ columns_more (j + length s) n [] (omega arith)
 
-wrote_start : (j b : ℕ) (s : List ℕ) (n : ℕ) → start b s ≡ Number n → spaces j ++ (b ∷ s) ≡ wide (j + length s) n
+wrote_start : (j b : ℕ) (s : List ℕ) (n : ℕ) → start b s ≡ Some n → spaces j ++ (b ∷ s) ≡ wide (j + length s) n
 unfolding start
 wrote_start j b [] n h = wrote_single j b n h ∙ ap (λ (k : ℕ). wide k n) (sym (add-zero j))
 wrote_start j b (a ∷ s) n h =
     elim (ℕ_discrete b 48) [
-      | yes e ↦ bad_never n (simp (eq-eqb b 48 e) at h)
+      | yes e ↦ cc (simp (eq-eqb b 48 e) at h)
       | no q ↦ wrote_several j b (a ∷ s) n q (simp (ne_eqb b 48 q) at h)
     ]
 
-wrote_spaced : (j : ℕ) (s : List ℕ) (n : ℕ) → spaced s ≡ Number n → j + length s ≡ field_width → spaces j ++ s ≡ field_of n
+wrote_spaced : (j : ℕ) (s : List ℕ) (n : ℕ) → spaced s ≡ Some n → j + length s ≡ field_width → spaces j ++ s ≡ field_of n
 unfolding spaced wide field_of
-wrote_spaced j [] n h w = bad_never n h
+wrote_spaced j [] n h w = cc
 wrote_spaced j (b ∷ s) n h w =
     elim (ℕ_discrete b space) [
       | yes e ↦
@@ -260,26 +254,26 @@ wrote_spaced j (b ∷ s) n h w =
     ]
 
 -- a field that is read as a number is the one that the number is written as
-pub read_only : (s : List ℕ) (n : ℕ) → field_read s ≡ Number n → s ≡ field_of n
+pub read_only : (s : List ℕ) (n : ℕ) → field_read s ≡ Some n → s ≡ field_of n
 unfolding field_read
 read_only s n h =
     elim (ℕ_discrete (length s) field_width) [
       | yes e ↦ wrote_spaced 0 s n (simp (eq-eqb (length s) field_width e) at h) (omega arith)
-      | no q ↦ bad_never n (simp (ne_eqb (length s) field_width q) at h)
+      | no q ↦ cc (simp (ne_eqb (length s) field_width q) at h)
     ]
 
-start_range : (b : ℕ) (s : List ℕ) (n : ℕ) → start b s ≡ Number n → n < number_limit
+start_range : (b : ℕ) (s : List ℕ) (n : ℕ) → start b s ≡ Some n → n < number_limit
 unfolding start
 start_range b [] n h = (digits_range 0 (b ∷ []) n h).1
 start_range b (a ∷ s) n h =
     elim (ℕ_discrete b 48) [
-      | yes e ↦ bad_never n (simp (eq-eqb b 48 e) at h)
+      | yes e ↦ cc (simp (eq-eqb b 48 e) at h)
       | no q ↦ (digits_range 0 (b ∷ a ∷ s) n (simp (ne_eqb b 48 q) at h)).1
     ]
 
-spaced_range : (s : List ℕ) (n : ℕ) → spaced s ≡ Number n → n < number_limit
+spaced_range : (s : List ℕ) (n : ℕ) → spaced s ≡ Some n → n < number_limit
 unfolding spaced
-spaced_range [] n h = bad_never n h
+spaced_range [] n h = cc
 spaced_range (b ∷ s) n h =
     elim (ℕ_discrete b space) [
       | yes e ↦ spaced_range s n (simp (eq-eqb b space e) at h)
@@ -287,10 +281,10 @@ spaced_range (b ∷ s) n h =
     ]
 
 -- a number that is read is one of 0..4294967295
-pub read_range : (s : List ℕ) (n : ℕ) → field_read s ≡ Number n → n < 2 ^ 32
+pub read_range : (s : List ℕ) (n : ℕ) → field_read s ≡ Some n → n < 2 ^ 32
 unfolding field_read
 read_range s n h =
     elim (ℕ_discrete (length s) field_width) [
       | yes e ↦ spaced_range s n (simp (eq-eqb (length s) field_width e) at h)
-      | no q ↦ bad_never n (simp (ne_eqb (length s) field_width q) at h)
+      | no q ↦ cc (simp (ne_eqb (length s) field_width q) at h)
     ]

@@ -1,122 +1,118 @@
--- The turns of the field reader's loops, and a field from what its spaces end at. Assumes nothing.
-use Rattle.std.proofs.Common.{◌≡◌, ℕ, suc, ◌+◌, ◌-◌, ◌*◌, ◌^◌, ◌<◌, ◌≤◌, List, [], ◌∷◌, length, get_or, sym, refl, ap, ◌∙◌, pow-suc, add-one, arith, eq-eqb, le-leb}
-use native.Mathlib.Nat.{pow-le-pow_right}
-use native.Mathlib.Decide.{dec_le}
-use lib.Seq.{slice, slice-cons, slice_empty, length-slice}
+-- The turns of the field reader's loop, and a field from what its spaces end at. Assumes nothing.
+use Rattle.std.proofs.Common.{◌≡◌, ℕ, suc, ◌+◌, ◌-◌, ◌*◌, ◌^◌, ◌<◌, ◌≤◌, Bool, true, false, not, ◌==◌, Option, Some, None, List, [], ◌∷◌, length, get_or, take, drop, position, sym, refl, ap, ◌∙◌, subst, take_all, length-drop, get_or-drop, drop_of_length-le, pow-suc, add-zero, add-one, arith, eq-eqb, ne_eqb, le-leb, lt-ltb, le-ltb}
+use native.Mathlib.Decide.{ℕ_discrete, dec_le, dec_lt}
 use borrow.Author.Tests.{lt-leb}
-use Rattle.columns.specs.declared.field.FieldRead.TheVariants.{Number, Bad}
-use Rattle.columns.specs.Field.{field_width, space, in_range, digits, start, spaced, field_read, SkipsTo, DigitOf}
+use Rattle.std.specs.List.{position_or_len}
+use Rattle.std.proofs.lemmas.List.{drop_more}
+use Rattle.std.proofs.lemmas.List.Quantifiers.{position-Some}
+use Rattle.columns.specs.Field.{field_width, space, in_range, digits, start, spaced, field_read}
 use Rattle.columns.proofs.FieldAgain.{digits_more, start_digit, spaced_digit}
-
--- a part begins with the element at its first place
-pub slice_one : (l : List ℕ) (i end : ℕ) → i < end → end ≤ length l → slice i end l ≡ get_or l i 0 ∷ slice (i + 1) end l
-slice_one l i end h k = slice-cons i end l 0 h k ∙ ap (λ (m : ℕ). get_or l i 0 ∷ slice m end l) (sym (add-one i))
-
--- ---- spaces
-
-pub at_space : (l : List ℕ) (i end : ℕ) → i < end → end ≤ length l → get_or l i 0 ≡ space → spaced (slice i end l) ≡ spaced (slice (i + 1) end l)
-unfolding spaced
-at_space l i end h k e = ap spaced (slice_one l i end h k) ∙ simp (eq-eqb (get_or l i 0) space e)
 
 -- ---- digits
 
 -- a byte that is no digit
-pub at_none : (l : List ℕ) (i end v r : ℕ) → i < end → end ≤ length l → DigitOf (get_or l i 0) r → 10 ≤ r → digits v (slice i end l) ≡ Bad
+pub digits_none : (v b : ℕ) (s : List ℕ) → ((48 ≤ b) × (b ≤ 57) → ⊥) → digits v (b ∷ s) ≡ None
 unfolding digits
-at_none l i end v r h k d none =
-    let b : ℕ = get_or l i 0 in
-    ap (digits v) (slice_one l i end h k)
-    ∙ elim (dec_le 48 b) [
-      | yes low ↦ simp (le-leb 48 b low, lt-leb b 57 (d.none none low))
+digits_none v b s h =
+    elim (dec_le 48 b) [
+      | yes low ↦ elim (dec_le b 57) [ yes high ↦ absurd (h (low, high)) | no q ↦ simp (le-leb 48 b low, lt-leb b 57 (omega arith)) ]
       | no q ↦ simp (lt-leb 48 b (omega arith))
     ]
 
--- the digits from `from` to i gave v
-pub record DigitsTo (l : List ℕ) (from end v i : ℕ) : Type 0 where
-  pub low : from ≤ i
-  pub high : i ≤ end
-  pub small : v < 10 ^ (i - from)
-  pub same : digits 0 (slice from end l) ≡ digits v (slice i end l)
+-- the first i digits of s gave v
+pub record DigitsTo (s : List ℕ) (v i : ℕ) : Type 0 where
+  pub small : v < 10 ^ i
+  pub same : digits 0 s ≡ digits v (drop i s)
 
-pub digits_first : (l : List ℕ) (from end : ℕ) → from ≤ end → DigitsTo l from end 0 from
-digits_first l from end h =
-    let z : from - from ≡ 0 = omega arith in
-    record { low = omega arith; high = h; small = rw z (omega arith); same = refl }
-
-pub digits_next : (l : List ℕ) (from end v i r : ℕ) → end ≤ length l → i < end → DigitOf (get_or l i 0) r → r < 10 → DigitsTo l from end v i → DigitsTo l from end (v * 10 + r) (i + 1)
-digits_next l from end v i r k h is less d =
-    let b : ℕ = get_or l i 0 in
-    let e : b ≡ 48 + r = is.is less in
-    let a : from ≤ i = d.low in
-    let s : v < 10 ^ (i - from) = d.small in
-    let one : i + 1 - from ≡ suc (i - from) = omega arith in
-    let digit : v * 10 + (b - 48) ≡ v * 10 + r = omega arith in
+pub digits_next : (s : List ℕ) (v i r : ℕ) → i < length s → 48 ≤ get_or s i 0 → get_or s i 0 ≤ 57 → r ≡ get_or s i 0 - 48 → DigitsTo s v i → DigitsTo s (v * 10 + r) (i + 1)
+digits_next s v i r h low high e d =
+    let small : v < 10 ^ i = d.small in
     record {
-      low = omega arith;
-      high = omega arith;
-      small = rw (one, pow-suc 10 (i - from)) (omega arith);
+      small = rw (add-one i, pow-suc 10 i) (omega arith);
       same =
           d.same
-          ∙ ap (digits v) (slice_one l i end h k)
-          ∙ digits_more v b (slice (i + 1) end l) (omega arith) (omega arith)
-          ∙ ap (λ (w : ℕ). digits w (slice (i + 1) end l)) digit;
+          ∙ ap (digits v) (drop_more s i 0 h)
+          ∙ digits_more v (get_or s i 0) (drop (i + 1) s) low high
+          ∙ ap (λ (m : ℕ). digits (v * 10 + m) (drop (i + 1) s)) (sym e);
     }
 
--- digits of a field fit a u64 with one more
-pub digits_fit : (l : List ℕ) (from end v i : ℕ) → end ≤ from + field_width → i < end → DigitsTo l from end v i → v < 10 ^ (field_width - 1)
-digits_fit l from end v i w h d =
-    let few : i - from ≤ field_width - 1 = omega arith in
-    let most : 10 ^ (i - from) ≤ 10 ^ (field_width - 1) = pow-le-pow_right (omega arith) few in
-    let s : v < 10 ^ (i - from) = d.small in
-    omega arith
+pub digits_stop : (s : List ℕ) (v i : ℕ) → i < length s → ((48 ≤ get_or s i 0) × (get_or s i 0 ≤ 57) → ⊥) → DigitsTo s v i → digits 0 s ≡ None
+digits_stop s v i h q d = d.same ∙ ap (digits v) (drop_more s i 0 h) ∙ digits_none v (get_or s i 0) (drop (i + 1) s) q
 
-pub digits_last : (l : List ℕ) (from end v i : ℕ) → end ≤ i → DigitsTo l from end v i → digits 0 (slice from end l) ≡ in_range v
+pub digits_last : (s : List ℕ) (v i : ℕ) → length s ≤ i → DigitsTo s v i → digits 0 s ≡ in_range v
 unfolding digits
-digits_last l from end v i h d =
-    let e : i ≡ end = let a : i ≤ end = d.high in omega arith in
-    d.same ∙ ap (λ (m : ℕ). digits v (slice m end l)) e ∙ ap (digits v) (slice_empty end l)
+digits_last s v i h d = d.same ∙ ap (digits v) (drop_of_length-le s {i = i} h)
 
 -- ---- a field
 
-module _ (l : List ℕ) (at : ℕ) (h : at + field_width ≤ length l) where
-  pub read_spaced : field_read (slice at (at + field_width) l) ≡ spaced (slice at (at + field_width) l)
-  unfolding field_read
-  read_spaced =
-      simp (eq-eqb (length (slice at (at + field_width) l)) field_width (length-slice at (at + field_width) l h ∙ omega arith))
+-- the test of a byte that is no space
+abbrev pub no_space : ℕ → Bool
+no_space b = not (b == space)
 
-  module _ (i : ℕ) (s : SkipsTo l at (at + field_width) i) where
-    pub field_none : at + field_width ≤ i → field_read (slice at (at + field_width) l) ≡ Bad
-    unfolding spaced
-    field_none q =
-        let e : i ≡ at + field_width = let a : i ≤ at + field_width = s.to in omega arith in
-        read_spaced ∙ s.same ∙ ap (λ (m : ℕ). spaced (slice m (at + field_width) l)) e ∙ ap spaced (slice_empty (at + field_width) l)
+pub spaced_from : (s : List ℕ) → spaced s ≡ spaced (drop (position_or_len no_space s) s)
+unfolding spaced
+spaced_from [] = refl
+spaced_from (b ∷ s) =
+    elim (ℕ_discrete b space) [
+      | yes e ↦
+          let k : ℕ = position_or_len no_space s in
+          let one : suc k ≡ 1 + k = omega arith in
+          simp (eq-eqb b space e) (spaced_from s ∙ ap (λ (i : ℕ). spaced (drop i (b ∷ s))) one)
+      | no q ↦ simp (ne_eqb b space q)
+    ]
 
-    module _ (q : i < at + field_width) where
-      pub field_start : field_read (slice at (at + field_width) l) ≡ start (get_or l i 0) (slice (i + 1) (at + field_width) l)
-      field_start =
-          read_spaced
-          ∙ s.same
-          ∙ ap spaced (slice_one l i (at + field_width) q h)
-          ∙ spaced_digit (get_or l i 0) (slice (i + 1) (at + field_width) l) (s.stop q)
+pub field_spaced : (s : List ℕ) → length s ≡ field_width → field_read s ≡ spaced s
+unfolding field_read
+field_spaced s h = simp (eq-eqb (length s) field_width h)
 
-      pub field_digits : (get_or l i 0 ≡ 48 → ⊥) → field_read (slice at (at + field_width) l) ≡ digits 0 (slice i (at + field_width) l)
-      field_digits no_zero =
-          field_start
-          ∙ start_digit (get_or l i 0) (slice (i + 1) (at + field_width) l) no_zero
-          ∙ ap (digits 0) (sym (slice_one l i (at + field_width) q h))
+-- the number of the field s is what its bytes n say, which begin with no space
+pub record NumberIs (s n : List ℕ) : Type 0 where
+  pub is : field_read s ≡ spaced n
+  pub some : 0 < length n
+  pub most : length n ≤ field_width
+  pub first : get_or n 0 0 ≡ space → ⊥
 
-      pub field_leading : get_or l i 0 ≡ 48 → i + 1 < at + field_width → field_read (slice at (at + field_width) l) ≡ Bad
-      unfolding start
-      field_leading zero-first more =
-          field_start
-          ∙ ap (start (get_or l i 0)) (slice_one l (i + 1) (at + field_width) more h)
-          ∙ simp (eq-eqb (get_or l i 0) 48 zero-first)
+module _ (s : List ℕ) (h : length s ≡ field_width) where
+  -- only spaces
+  pub plain_none : None ≡ position no_space s → field_read s ≡ None
+  unfolding spaced
+  plain_none e =
+      elim (dec_lt (position_or_len no_space s) (length s)) [
+        | yes p ↦ let z : ◌≡◌ {A = Option ℕ} None (Some (position_or_len no_space s)) = e ∙ simp (lt-ltb (position_or_len no_space s) (length s) p) in cc
+        | no q ↦ field_spaced s h ∙ spaced_from s ∙ ap spaced (drop_of_length-le s {i = position_or_len no_space s} (omega arith))
+      ]
 
-      pub field_zero : get_or l i 0 ≡ 48 → at + field_width ≤ i + 1 → field_read (slice at (at + field_width) l) ≡ Number 0
-      unfolding start digits in_range
-      field_zero zero-first last =
-          let e : i + 1 ≡ at + field_width = omega arith in
-          field_start
-          ∙ ap (λ (m : ℕ). start (get_or l i 0) (slice m (at + field_width) l)) e
-          ∙ ap (start (get_or l i 0)) (slice_empty (at + field_width) l)
-          ∙ ap (λ (b : ℕ). start b []) zero-first
+  found : (i : ℕ) → Some i ≡ position no_space s → i ≡ position_or_len no_space s
+  found i e =
+      elim (dec_lt (position_or_len no_space s) (length s)) [
+        | yes p ↦ let z : ◌≡◌ {A = Option ℕ} (Some i) (Some (position_or_len no_space s)) = e ∙ simp (lt-ltb (position_or_len no_space s) (length s) p) in cc
+        | no q ↦ let z : ◌≡◌ {A = Option ℕ} (Some i) None = e ∙ simp (le-ltb (position_or_len no_space s) (length s) (omega arith)) in cc
+      ]
+
+  -- the bytes from the first on that is no space
+  pub number_from : (i : ℕ) → Some i ≡ position no_space s → NumberIs s (take (field_width - i) (drop i s))
+  number_from i e =
+      let p = position-Some no_space s i 0 (sym e) in
+      let n : List ℕ = drop i s in
+      let all : take (field_width - i) n ≡ n = take_all (field_width - i) n (omega (arith, length-drop i s)) in
+      let whole : NumberIs s n = record {
+        is = field_spaced s h ∙ spaced_from s ∙ ap (λ (k : ℕ). spaced (drop k s)) (sym (found i e));
+        some = omega (arith, length-drop i s, p.0);
+        most = omega (arith, length-drop i s);
+        first = λ q. let z : false ≡ true = simp (eq-eqb (get_or s i 0) space (ap (λ (k : ℕ). get_or s k 0) (sym (add-zero i)) ∙ sym (get_or-drop i s 0 0) ∙ q)) at p.1 in cc;
+      } in
+      subst (NumberIs s) (sym all) whole
+
+-- a first 0 and more digits
+pub plain_leading : (s n : List ℕ) → NumberIs s n → get_or n 0 0 ≡ 48 → 1 < length n → field_read s ≡ None
+unfolding start
+plain_leading s [] d z more = absurd (omega arith)
+plain_leading s (b ∷ []) d z more = absurd (omega arith)
+plain_leading s (b ∷ a ∷ n) d z more = d.is ∙ spaced_digit b (a ∷ n) d.first ∙ simp (eq-eqb b 48 z)
+
+-- what is read of the field is what the digits write
+pub plain_digits : (s n : List ℕ) → NumberIs s n → (get_or n 0 0 ≡ 48 → 1 < length n → ⊥) → field_read s ≡ digits 0 n
+unfolding start
+plain_digits s [] d q = absurd (omega (arith, d.some))
+plain_digits s (b ∷ []) d q = d.is ∙ spaced_digit b [] d.first
+plain_digits s (b ∷ a ∷ n) d q = d.is ∙ spaced_digit b (a ∷ n) d.first ∙ start_digit b (a ∷ n) (λ z. q z (omega arith))

@@ -1,12 +1,10 @@
 -- A line of numbers is read as these numbers, a line that is read is theirs, and a line over its limit is broken. Assumes nothing.
-use Rattle.std.proofs.Common.{◌≡◌, ℕ, zero, suc, ◌+◌, ◌*◌, ◌/◌, ◌%◌, ◌<◌, ◌≤◌, true, false, List, [], ◌∷◌, ◌++◌, length, get_or, take, drop, sym, refl, ap, ◌∙◌, arith, length-drop, take-append-drop, length-take, length-take-le, take-take, take_at, drop_at, le-ltb, lt-ltb, eq-eqb, ne_eqb, le-leb}
+use Rattle.std.proofs.Common.{◌≡◌, ℕ, zero, suc, ◌+◌, ◌*◌, ◌/◌, ◌%◌, ◌<◌, ◌≤◌, true, false, List, [], ◌∷◌, ◌++◌, length, get_or, take, drop, sym, refl, ap, ◌∙◌, arith, length-drop, take-append-drop, length-take, length-take-le, take_at, drop_at, le-ltb, lt-ltb, eq-eqb, ne_eqb, le-leb, Option, Some, None}
 use native.Mathlib.Decide.{ℕ_discrete, dec_le}
 use mathlib.Core.Bool.{and-false}
 use borrow.Author.Tests.{lt-leb}
-use Rattle.columns.specs.declared.field.FieldRead.{FieldRead}
-use Rattle.columns.specs.declared.field.FieldRead.TheVariants.{Number, Bad}
 use Rattle.columns.specs.Field.{field_width, field_read, kind_of, field_of}
-use Rattle.columns.specs.Line.{Reading, read, broken, onto, before, fields, length_ok, read_within, line_of, InRange}
+use Rattle.columns.specs.Line.{onto, before, fields, length_ok, read_within, line_of, InRange}
 use Rattle.columns.proofs.FieldAgain.{length_field, read_written, read_only, read_range}
 use Rattle.columns.proofs.Writing.{length_line}
 
@@ -37,7 +35,7 @@ module _ (limit : ℕ) (s : List ℕ) where
   unfolding read_within
   within_ok some whole most = simp (length_ok_lem limit (length s) some whole most)
 
-  pub within_bad : length_ok limit (length s) ≡ false → read_within limit s ≡ broken
+  pub within_bad : length_ok limit (length s) ≡ false → read_within limit s ≡ None
   unfolding read_within
   within_bad bad = simp bad
 
@@ -48,36 +46,26 @@ within_cut limit most s low long =
     within_bad limit s (length_long limit (length s) (omega arith))
     ∙ sym (within_bad limit (take (field_width * most + 1) s) (length_long limit (length (take (field_width * most + 1) s)) (omega arith)))
 
--- a length within two limits is right for both or for neither
-pub length_same : (a b n : ℕ) → n ≤ field_width * a → n ≤ field_width * b → length_ok a n ≡ length_ok b n
-unfolding length_ok
-length_same a b n h k = simp (le-leb n (field_width * a) h, le-leb n (field_width * b) k)
-
--- the first bytes of a line have its kind
-pub kind_cut : (n : ℕ) (s : List ℕ) → field_width ≤ n → kind_of s ≡ kind_of (take n s)
-unfolding kind_of
-kind_cut n s h = ap field_read (sym (take-take field_width n s h))
-
 -- fewer bytes than a field are of no kind
-pub kind_short : (s : List ℕ) → length s < field_width → Bad ≡ kind_of s
+pub kind_short : (s : List ℕ) → length s < field_width → None ≡ kind_of s
 unfolding kind_of field_read
 kind_short s h = simp (ne_eqb (length (take field_width s)) field_width (λ e. omega (arith, length-take field_width s, e)))
 
 -- ---- numbers written are read
 
-fields_again : (ns : List ℕ) → InRange ns → fields (length ns) (line_of ns) ≡ read ns
+fields_again : (ns : List ℕ) → InRange ns → fields (length ns) (line_of ns) ≡ Some ns
 unfolding fields line_of before onto
 fields_again [] r = refl
 fields_again (n ∷ ns) r =
-    let field : field_read (take field_width (field_of n ++ line_of ns)) ≡ Number n =
+    let field : field_read (take field_width (field_of n ++ line_of ns)) ≡ Some n =
     ap field_read (take_at (field_of n) (line_of ns) field_width (length_field n)) ∙ read_written n r.0 in
-    let rest : fields (length ns) (drop field_width (field_of n ++ line_of ns)) ≡ read ns =
+    let rest : fields (length ns) (drop field_width (field_of n ++ line_of ns)) ≡ Some ns =
     ap (fields (length ns)) (drop_at (field_of n) (line_of ns) field_width (length_field n)) ∙ fields_again ns r.1 in
-    ap (λ (f : FieldRead). before f (fields (length ns) (drop field_width (field_of n ++ line_of ns)))) field
+    ap (λ (f : Option ℕ). before f (fields (length ns) (drop field_width (field_of n ++ line_of ns)))) field
     ∙ ap (onto n) rest
 
 -- "Sheet numbers written are the numbers read again", of a line
-pub line_again : (limit : ℕ) (ns : List ℕ) → 0 < length ns → length ns ≤ limit → InRange ns → read_within limit (line_of ns) ≡ read ns
+pub line_again : (limit : ℕ) (ns : List ℕ) → 0 < length ns → length ns ≤ limit → InRange ns → read_within limit (line_of ns) ≡ Some ns
 line_again limit ns some most r =
     let long : length (line_of ns) ≡ field_width * length ns = length_line ns in
     let count : length (line_of ns) / field_width ≡ length ns = omega arith in
@@ -87,22 +75,19 @@ line_again limit ns some most r =
 
 -- ---- numbers read are those written
 
-pub broken_never : {P : Type 0} (ns : List ℕ) → broken ≡ read ns → P
-broken_never ns h = let z : ◌≡◌ {A = ℕ} 0 1 = cc in absurd (omega arith)
-
 -- a first field and the rest, both read
-pub record Before (f : FieldRead) (r : Reading) (ns : List ℕ) : Type 0 where
+pub record Before (f : Option ℕ) (r : Option (List ℕ)) (ns : List ℕ) : Type 0 where
   pub first : ℕ
   pub rest : List ℕ
-  pub is_field : f ≡ Number first
-  pub is_rest : r ≡ read rest
+  pub is_field : f ≡ Some first
+  pub is_rest : r ≡ Some rest
   pub is : first ∷ rest ≡ ns
 
-pub before_is : (f : FieldRead) (r : Reading) (ns : List ℕ) → before f r ≡ read ns → Before f r ns
+pub before_is : (f : Option ℕ) (r : Option (List ℕ)) (ns : List ℕ) → before f r ≡ Some ns → Before f r ns
 unfolding before onto
-before_is (Number n) (read ms) ns h = record { first = n; rest = ms; is_field = refl; is_rest = refl; is = cc }
-before_is (Number n) broken ns h = broken_never ns h
-before_is Bad r ns h = broken_never ns h
+before_is (Some n) (Some ms) ns h = record { first = n; rest = ms; is_field = refl; is_rest = refl; is = cc }
+before_is (Some n) None ns h = cc
+before_is None r ns h = cc
 
 -- a line of these numbers, so many at most
 pub record IsLine (limit : ℕ) (s ns : List ℕ) : Type 0 where
@@ -116,10 +101,10 @@ record FieldsAre (k : ℕ) (s ns : List ℕ) : Type 0 where
   count : length ns ≡ k
   range : InRange ns
 
-fields_only : (k : ℕ) (s ns : List ℕ) → length s ≡ field_width * k → fields k s ≡ read ns → FieldsAre k s ns
+fields_only : (k : ℕ) (s ns : List ℕ) → length s ≡ field_width * k → fields k s ≡ Some ns → FieldsAre k s ns
 unfolding fields line_of
 fields_only zero [] [] long h = record { is = refl; count = refl; range = tt }
-fields_only zero [] (n ∷ ns) long h = let z : ◌≡◌ {A = ℕ} 0 1 = cc in absurd (omega arith)
+fields_only zero [] (n ∷ ns) long h = cc
 fields_only zero (b ∷ s) ns long h = absurd (omega arith)
 fields_only (suc k) s ns long h =
     let b : Before (field_read (take field_width s)) (fields k (drop field_width s)) ns =
@@ -139,16 +124,16 @@ fields_only (suc k) s ns long h =
     rw b.is at both
 
 -- a line that is read is the line of the numbers read
-pub line_only : (limit : ℕ) (s ns : List ℕ) → read_within limit s ≡ read ns → IsLine limit s ns
+pub line_only : (limit : ℕ) (s ns : List ℕ) → read_within limit s ≡ Some ns → IsLine limit s ns
 line_only limit s ns h =
     elim (ℕ_discrete (length s) 0) [
-      | yes none ↦ broken_never ns (sym (within_bad limit s (length_none limit (length s) none)) ∙ h)
+      | yes none ↦ cc (sym (within_bad limit s (length_none limit (length s) none)) ∙ h)
       | no q ↦
           elim (ℕ_discrete (length s % field_width) 0) [
-            | no uneven ↦ broken_never ns (sym (within_bad limit s (length_uneven limit (length s) uneven)) ∙ h)
+            | no uneven ↦ cc (sym (within_bad limit s (length_uneven limit (length s) uneven)) ∙ h)
             | yes whole ↦
                 elim (dec_le (length s) (field_width * limit)) [
-                  | no long ↦ broken_never ns (sym (within_bad limit s (length_long limit (length s) (omega arith))) ∙ h)
+                  | no long ↦ cc (sym (within_bad limit s (length_long limit (length s) (omega arith))) ∙ h)
                   | yes most ↦
                       let f : FieldsAre (length s / field_width) s ns =
                       fields_only (length s / field_width) s ns (omega arith) (sym (within_ok limit s (omega arith) whole most) ∙ h) in
@@ -159,7 +144,7 @@ line_only limit s ns h =
     ]
 
 -- the kind of a line that is read is its first number
-kind_first : (limit : ℕ) (s ns : List ℕ) → IsLine limit s ns → kind_of s ≡ Number (get_or ns 0 0)
+kind_first : (limit : ℕ) (s ns : List ℕ) → IsLine limit s ns → kind_of s ≡ Some (get_or ns 0 0)
 unfolding kind_of line_of
 kind_first limit s [] h = absurd (omega (arith, h.some))
 kind_first limit s (n ∷ ns) h =
@@ -167,5 +152,5 @@ kind_first limit s (n ∷ ns) h =
     ∙ ap field_read (take_at (field_of n) (line_of ns) field_width (length_field n))
     ∙ read_written n h.range.0
 
-pub first_number : (limit : ℕ) (s ns : List ℕ) → read_within limit s ≡ read ns → kind_of s ≡ Number (get_or ns 0 0)
+pub first_number : (limit : ℕ) (s ns : List ℕ) → read_within limit s ≡ Some ns → kind_of s ≡ Some (get_or ns 0 0)
 first_number limit s ns h = kind_first limit s ns (line_only limit s ns h)

@@ -1,11 +1,12 @@
 -- Eight bytes as one number: that they are digits, and the number that they write. Assumes nothing.
-use Rattle.std.proofs.Common.{◌≡◌, ℕ, ◌+◌, ◌-◌, ◌*◌, ◌/◌, ◌%◌, ◌^◌, ◌<◌, ◌≤◌, List, [], ◌∷◌, ◌++◌, length, get_or, sym, refl, ap, ◌∙◌, add-zero, arith, eq-eqb}
+use Rattle.std.proofs.Common.{◌≡◌, ℕ, zero, ◌+◌, ◌-◌, ◌*◌, ◌/◌, ◌%◌, ◌^◌, ◌<◌, ◌≤◌, suc, List, [], ◌∷◌, ◌++◌, length, get_or, take, drop, sym, refl, ap, ◌∙◌, subst, mul_assoc, mul_comm, pow-suc, add-zero, arith, take-append-drop, length-take-le, drop_of_length-le, length-drop, eq-eqb, Some, w64}
 use lib.Bits.{bit_and, and_block, and_high, and_mask}
-use lib.Seq.{slice, slice_empty, length-slice}
-use Rattle.columns.specs.declared.field.FieldRead.TheVariants.{Number}
-use Rattle.columns.specs.Field.{field_width, space, in_range, digits, start, spaced, field_read, two_at, eight_at}
-use Rattle.columns.proofs.FieldAgain.{digits_more, digits_after, start_digit, spaced_digit}
-use Rattle.columns.proofs.FieldTurns.{slice_one, read_spaced}
+use Rattle.std.specs.Int.{to_le_bytes, from_le_bytes}
+use Rattle.std.proofs.lemmas.Nat.{le_bytes_8}
+use Rattle.std.proofs.lemmas.List.{drop_more}
+use Rattle.columns.specs.Field.{field_width, space, in_range, digits, start, spaced, field_read, spaces}
+use Rattle.columns.proofs.FieldAgain.{digits_more, digits_after, start_digit, spaced_digit, spaced_pass}
+use Rattle.columns.proofs.FieldTurns.{field_spaced}
 
 -- ---- bytes
 
@@ -30,15 +31,6 @@ lowest m a n b h k e =
     let l : (m * 256 + a) % 256 ≡ a = omega arith in
     let r : (n * 256 + b) % 256 ≡ b = omega arith in
     sym l ∙ ap (λ (v : ℕ). v % 256) e ∙ r
-
--- spaces in front are passed
-passed : (s t : List ℕ) → Within 0 255 s → packed s ≡ filled space s → spaced (s ++ t) ≡ spaced t
-unfolding packed filled spaced
-passed [] t w h = refl
-passed (b ∷ s) t w h =
-    let byte : b ≤ 255 = w.1.0 in
-    let e : b ≡ space = lowest (packed s) b (filled space s) space (omega arith) (omega arith) h in
-    simp (eq-eqb b space e) (passed s t w.1.1 (omega arith))
 
 -- ---- digits
 
@@ -106,6 +98,15 @@ lowered (b ∷ s) = (b - 48) ∷ lowered s
 number : ℕ → List ℕ → ℕ
 number v [] = v
 number v (d ∷ s) = number (v * 10 + d) s
+
+-- digits write less than the next power of ten
+number_below : (v n : ℕ) (s : List ℕ) → Within 0 9 s → v < n → number v s < n * 10 ^ length s
+unfolding number
+number_below v n [] w h = omega arith
+number_below v n (d ∷ s) w h =
+    let p : n * 10 * 10 ^ length s ≡ n * 10 ^ suc (length s) = mul_assoc n 10 (10 ^ length s) ∙ ap (λ (m : ℕ). n * m) (mul_comm 10 (10 ^ length s) ∙ sym (pow-suc 10 (length s))) in
+    let k : d ≤ 9 = w.1.0 in
+    subst (λ (m : ℕ). number (v * 10 + d) s < m) p (number_below (v * 10 + d) (n * 10) s w.1.1 (omega arith))
 
 digits_number : (v : ℕ) (s : List ℕ) → Within 48 57 s → digits v s ≡ in_range (number v (lowered s))
 unfolding digits number lowered
@@ -197,156 +198,136 @@ module _ (a b c d e f g h : ℕ) (w : Within 0 9 (a ∷ b ∷ c ∷ d ∷ e ∷ 
 
 -- ---- eight bytes of a list
 
-eight_bytes : List ℕ → ℕ → List ℕ
-eight_bytes l i =
-    get_or l i 0 ∷ get_or l (i + 1) 0 ∷ get_or l (i + 2) 0 ∷ get_or l (i + 2 + 1) 0
-    ∷ get_or l (i + 4) 0 ∷ get_or l (i + 4 + 1) 0 ∷ get_or l (i + 6) 0 ∷ get_or l (i + 6 + 1) 0 ∷ []
+within_bytes : (s : List ℕ) → ((i : ℕ) → get_or s i 0 < 256) → Within 0 255 s
+within_bytes [] byte = tt
+within_bytes (b ∷ s) byte = (omega arith, (omega (arith, byte 0), within_bytes s (λ i. byte (suc i))))
 
-slice_to : (l : List ℕ) (i j end : ℕ) → i < end → end ≤ length l → i + 1 ≡ j → slice i end l ≡ get_or l i 0 ∷ slice j end l
-slice_to l i j end h k e = slice_one l i end h k ∙ ap (λ (m : ℕ). get_or l i 0 ∷ slice m end l) e
+take_bytes : (n : ℕ) (s : List ℕ) → ((i : ℕ) → get_or s i 0 < 256) → (i : ℕ) → get_or (take n s) i 0 < 256
+take_bytes zero s byte i = omega arith
+take_bytes (suc n) [] byte i = omega arith
+take_bytes (suc n) (b ∷ s) byte zero = byte 0
+take_bytes (suc n) (b ∷ s) byte (suc i) = take_bytes n s (λ k. byte (suc k)) i
 
 front : (b : ℕ) {s t : List ℕ} → s ≡ t → b ∷ s ≡ b ∷ t
 front b e = ap (λ (l : List ℕ). b ∷ l) e
 
-slice_more : (l : List ℕ) (at end : ℕ) → at + 8 ≤ end → end ≤ length l → slice at end l ≡ eight_bytes l at ++ slice (at + 8) end l
+eight_bytes : List ℕ → List ℕ
+eight_bytes l =
+    get_or l 0 0 ∷ get_or l 1 0 ∷ get_or l 2 0 ∷ get_or l 3 0 ∷ get_or l 4 0 ∷ get_or l 5 0 ∷ get_or l 6 0 ∷ get_or l 7 0 ∷ []
+
+eight_all : (l : List ℕ) → length l ≡ 8 → l ≡ eight_bytes l
 unfolding eight_bytes
-slice_more l at end h k =
-    slice_to l at (at + 1) end (omega arith) k (omega arith)
-    ∙ front _ (slice_to l (at + 1) (at + 2) end (omega arith) k (omega arith)
-    ∙ front _ (slice_to l (at + 2) (at + 2 + 1) end (omega arith) k (omega arith)
-    ∙ front _ (slice_to l (at + 2 + 1) (at + 4) end (omega arith) k (omega arith)
-    ∙ front _ (slice_to l (at + 4) (at + 4 + 1) end (omega arith) k (omega arith)
-    ∙ front _ (slice_to l (at + 4 + 1) (at + 6) end (omega arith) k (omega arith)
-    ∙ front _ (slice_to l (at + 6) (at + 6 + 1) end (omega arith) k (omega arith)
-    ∙ front _ (slice_to l (at + 6 + 1) (at + 8) end (omega arith) k (omega arith))))))))
+eight_all l long =
+    drop_more l 0 0 (omega arith)
+    ∙ front _ (drop_more l 1 0 (omega arith)
+    ∙ front _ (drop_more l 2 0 (omega arith)
+    ∙ front _ (drop_more l 3 0 (omega arith)
+    ∙ front _ (drop_more l 4 0 (omega arith)
+    ∙ front _ (drop_more l 5 0 (omega arith)
+    ∙ front _ (drop_more l 6 0 (omega arith)
+    ∙ front _ (drop_more l 7 0 (omega arith)
+    ∙ front _ (drop_of_length-le l {i = 8} (omega arith)))))))))
 
-module _ (l : List ℕ) (at : ℕ) (h : at + 8 ≤ length l) where
-  eight_packed : eight_at l at ≡ packed (eight_bytes l at)
-  unfolding eight_bytes packed
-  eight_packed = omega arith
+eight_packed : (l : List ℕ) → from_le_bytes w64 l ≡ packed (eight_bytes l)
+unfolding eight_bytes packed
+eight_packed l = omega arith
 
-  module _ (byte : (i : ℕ) → get_or l i 0 < 256) where
-    bytes : Within 0 255 (eight_bytes l at)
-    unfolding eight_bytes
-    bytes = (
-      omega arith,
-      (
-        omega (arith, byte at),
-        (
-          omega arith,
-          (
-            omega (arith, byte (at + 1)),
-            (
-              omega arith,
-              (
-                omega (arith, byte (at + 2)),
-                (
-                  omega arith,
-                  (
-                    omega (arith, byte (at + 2 + 1)),
-                    (omega arith, (omega (arith, byte (at + 4)), (omega arith, (omega (arith, byte (at + 4 + 1)), (omega arith, (omega (arith, byte (at + 6)), (omega arith, (omega (arith, byte (at + 6 + 1)), tt)))))))),
-                  ),
-                ),
-              ),
-            ),
-          ),
-        ),
-      ),
-    )
+module _ (l : List ℕ) (long : length l ≡ 8) (byte : (i : ℕ) → get_or l i 0 < 256) (w : ℕ) (is : w ≡ from_le_bytes w64 l) where
+  bytes : Within 0 255 (eight_bytes l)
+  bytes = subst (Within 0 255) (eight_all l long) (within_bytes l byte)
 
-    module _ (w : ℕ) (is : w ≡ eight_at l at) (half : bit_and w 17361641481138401520 ≡ 3472328296227680304) where
-      half_packed : bit_and (packed (eight_bytes l at)) (filled 240 (eight_bytes l at)) ≡ filled 48 (eight_bytes l at)
+  module _ (half : bit_and w 17361641481138401520 ≡ 3472328296227680304) where
+    half_packed : bit_and (packed (eight_bytes l)) (filled 240 (eight_bytes l)) ≡ filled 48 (eight_bytes l)
+    unfolding eight_bytes filled
+    half_packed = ap (λ (v : ℕ). bit_and v 17361641481138401520) (sym (is ∙ eight_packed l)) ∙ half
+
+    -- digits leave room for six more in each byte
+    pub eight_most : w ≤ 4557430888798830399
+    unfolding eight_bytes filled
+    eight_most = rw (is ∙ eight_packed l) (most (eight_bytes l) (halves (eight_bytes l) bytes half_packed))
+
+    module _ (six : bit_and (w + 434041037028460038) 17361641481138401520 ≡ 3472328296227680304) where
+      eight_are : Within 48 57 (eight_bytes l)
       unfolding eight_bytes filled
-      half_packed = ap (λ (v : ℕ). bit_and v 17361641481138401520) (sym (is ∙ eight_packed)) ∙ half
+      eight_are =
+          are_digits (eight_bytes l) bytes half_packed
+          (ap (λ (v : ℕ). bit_and (v + 434041037028460038) 17361641481138401520) (sym (is ∙ eight_packed l)) ∙ six)
 
-      -- digits leave room for six more in each byte
-      pub eight_most : w ≤ 4557430888798830399
-      unfolding eight_bytes filled
-      eight_most = rw (is ∙ eight_packed) (most (eight_bytes l at) (halves (eight_bytes l at) bytes half_packed))
+      -- what eight digits write
+      pub eight_digits : digits 0 l ≡ in_range (whole_of (fours_of (pairs_of (w - 3472328296227680304))))
+      unfolding eight_bytes filled lowered
+      eight_digits =
+          let s : List ℕ = eight_bytes l in
+          let low : w - 3472328296227680304 ≡ packed (lowered s) = omega (arith, is ∙ eight_packed l, packed_lowered s eight_are) in
+          ap (digits 0) (eight_all l long)
+          ∙ digits_number 0 s eight_are
+          ∙ ap in_range (sym (joined _ _ _ _ _ _ _ _ (lowered_digits s eight_are)))
+          ∙ ap (λ (x : ℕ). in_range (whole_of (fours_of (pairs_of x)))) (sym low)
 
-      module _ (six : bit_and (w + 434041037028460038) 17361641481138401520 ≡ 3472328296227680304) where
-        eight_are : Within 48 57 (eight_bytes l at)
-        unfolding eight_bytes filled
-        eight_are =
-            are_digits (eight_bytes l at) bytes half_packed
-            (ap (λ (v : ℕ). bit_and (v + 434041037028460038) 17361641481138401520) (sym (is ∙ eight_packed)) ∙ six)
-
-        -- what eight digits write
-        pub eight_digits : digits 0 (slice at (at + 8) l) ≡ in_range (whole_of (fours_of (pairs_of (w - 3472328296227680304))))
-        unfolding eight_bytes filled lowered
-        eight_digits =
-            let s : List ℕ = eight_bytes l at in
-            let low : w - 3472328296227680304 ≡ packed (lowered s) = omega (arith, is ∙ eight_packed, packed_lowered s eight_are) in
-            ap (digits 0) (slice_more l at (at + 8) (omega arith) h ∙ ap (λ (t : List ℕ). eight_bytes l at ++ t) (slice_empty (at + 8) l))
-            ∙ digits_number 0 s eight_are
-            ∙ ap in_range (sym (joined _ _ _ _ _ _ _ _ (lowered_digits s eight_are)))
-            ∙ ap (λ (x : ℕ). in_range (whole_of (fours_of (pairs_of x)))) (sym low)
+      pub eight_small : whole_of (fours_of (pairs_of (w - 3472328296227680304))) < 100000000
+      unfolding eight_bytes filled lowered
+      eight_small =
+          let s : List ℕ = eight_bytes l in
+          let low : w - 3472328296227680304 ≡ packed (lowered s) = omega (arith, is ∙ eight_packed l, packed_lowered s eight_are) in
+          let n : whole_of (fours_of (pairs_of (w - 3472328296227680304))) ≡ number 0 (lowered s) =
+          ap (λ (x : ℕ). whole_of (fours_of (pairs_of x))) low ∙ joined _ _ _ _ _ _ _ _ (lowered_digits s eight_are) in
+          rw n (number_below 0 1 (lowered s) (lowered_digits s eight_are) (omega arith))
 
 -- ---- a field
 
--- eight digits behind those that gave v
-behind : (l : List ℕ) (at v n : ℕ) → at + 8 ≤ length l → digits 0 (slice at (at + 8) l) ≡ Number n → digits v (slice at (at + 8) l) ≡ in_range (v * 100000000 + n)
-behind l at v n h e =
-    let long : length (slice at (at + 8) l) ≡ 8 = length-slice at (at + 8) l h ∙ omega arith in
-    ap (λ (m : ℕ). digits m (slice at (at + 8) l)) (sym (add-zero v))
-    ∙ digits_after v 0 (slice at (at + 8) l) n e
-    ∙ ap (λ (k : ℕ). in_range (v * 10 ^ k + n)) long
-
 -- a digit behind a space, in front of further digits
-pub lead_one : (a b r : ℕ) → a ≡ space → (r < 10 → b ≡ 48 + r) → r < 10 → (r ≡ 0 → ⊥) → (s : List ℕ) → spaced (a ∷ b ∷ s) ≡ digits r s
+pub lead_one : (b r : ℕ) → 48 < b → b ≤ 57 → r ≡ b - 48 → (s : List ℕ) → spaced (space ∷ b ∷ s) ≡ digits r s
 unfolding spaced
-lead_one a b r e f high low s =
-    let is : b ≡ 48 + r = f high in
+lead_one b r low high is s =
     let one : 0 * 10 + (b - 48) ≡ r = omega arith in
-    simp (eq-eqb a space e)
-    (spaced_digit b s (λ q. omega arith) ∙ start_digit b s (λ q. low (omega arith)) ∙ digits_more 0 b s (omega arith) (omega arith) ∙ ap (λ (v : ℕ). digits v s) one)
+    spaced_digit b s (λ q. omega arith) ∙ start_digit b s (λ q. omega arith) ∙ digits_more 0 b s (omega arith) (omega arith) ∙ ap (λ (v : ℕ). digits v s) one
 
 -- two digits in front of further ones
-pub lead_two : (a b t o : ℕ) → (t < 10 → a ≡ 48 + t) → (o < 10 → b ≡ 48 + o) → t < 10 → (t ≡ 0 → ⊥) → o < 10 → (s : List ℕ) → spaced (a ∷ b ∷ s) ≡ digits (t * 10 + o) s
-lead_two a b t o f g high low k s =
-    let is : a ≡ 48 + t = f high in
-    let next : b ≡ 48 + o = g k in
+pub lead_two : (a b t o : ℕ) → 48 < a → a ≤ 57 → t ≡ a - 48 → 48 ≤ b → b ≤ 57 → o ≡ b - 48 → (s : List ℕ) → spaced (a ∷ b ∷ s) ≡ digits (t * 10 + o) s
+lead_two a b t o low high is k j next s =
     let two : (0 * 10 + (a - 48)) * 10 + (b - 48) ≡ t * 10 + o = omega arith in
     spaced_digit a (b ∷ s) (λ q. omega arith)
-    ∙ start_digit a (b ∷ s) (λ q. low (omega arith))
+    ∙ start_digit a (b ∷ s) (λ q. omega arith)
     ∙ digits_more 0 a (b ∷ s) (omega arith) (omega arith)
     ∙ digits_more (0 * 10 + (a - 48)) b s (omega arith) (omega arith)
     ∙ ap (λ (v : ℕ). digits v s) two
 
-module _ (l : List ℕ) (at : ℕ) (h : at + field_width ≤ length l) where
+module _ (l : List ℕ) (h : length l ≡ field_width) where
+  -- a field by its bytes
+  field_front : l ≡ get_or l 0 0 ∷ get_or l 1 0 ∷ get_or l 2 0 ∷ drop 3 l
+  field_front = drop_more l 0 0 (omega arith) ∙ front _ (drop_more l 1 0 (omega arith) ∙ front _ (drop_more l 2 0 (omega arith)))
+
+  field_back : drop 8 l ≡ get_or l 8 0 ∷ get_or l 9 0 ∷ get_or l 10 0 ∷ []
+  field_back =
+      drop_more l 8 0 (omega arith)
+      ∙ front _ (drop_more l 9 0 (omega arith) ∙ front _ (drop_more l 10 0 (omega arith) ∙ front _ (drop_of_length-le l {i = 11} (omega arith))))
+
   -- one digit behind ten spaces
-  pub field_one : ((i : ℕ) → get_or l i 0 < 256) → eight_at l at ≡ 2314885530818453536 → two_at l (at + 8) ≡ 8224 → (r : ℕ) → (r < 10 → get_or l (at + 10) 0 ≡ 48 + r) → r < 10
-      → in_range r ≡ field_read (slice at (at + field_width) l)
-  unfolding eight_bytes filled spaced start digits
-  field_one byte e f r is high =
-      let b = get_or l (at + 10) 0 in
-      let digit : b ≡ 48 + r = is high in
-      let end : ℕ = at + field_width in
-      let first : get_or l (at + 8) 0 ≡ space = lowest (get_or l (at + 8 + 1) 0) (get_or l (at + 8) 0) space space (byte (at + 8)) (omega arith) (omega arith) in
-      let second : get_or l (at + 8 + 1) 0 ≡ space = omega arith in
-      let last : slice (at + 8) end l ≡ get_or l (at + 8) 0 ∷ get_or l (at + 8 + 1) 0 ∷ b ∷ [] =
-      slice_to l (at + 8) (at + 8 + 1) end (omega arith) h (omega arith)
-      ∙ front _ (slice_to l (at + 8 + 1) (at + 10) end (omega arith) h (omega arith)
-      ∙ front _ (slice_to l (at + 10) end end (omega arith) h (omega arith) ∙ front _ (slice_empty end l))) in
+  pub field_one : ((i : ℕ) → get_or l i 0 < 256) → (f : List ℕ) → f ≡ take 8 l → (w : ℕ) → w ≡ from_le_bytes w64 f → w ≡ 2314885530818453536
+      → get_or l 8 0 ≡ space → get_or l 9 0 ≡ space → (r : ℕ) → 48 ≤ get_or l 10 0 → get_or l 10 0 ≤ 57 → r ≡ get_or l 10 0 - 48 → in_range r ≡ field_read l
+  unfolding spaced start digits
+  field_one byte f part w e eight first second r low high is =
+      let b : ℕ = get_or l 10 0 in
       let one : 0 * 10 + (b - 48) ≡ r = omega arith in
-      sym (read_spaced l at h
-      ∙ ap spaced (slice_more l at end (omega arith) h)
-      ∙ passed (eight_bytes l at) (slice (at + 8) end l) (bytes l at (omega arith) byte) (sym (eight_packed l at (omega arith)) ∙ e)
-      ∙ ap spaced last
-      ∙ simp (eq-eqb (get_or l (at + 8) 0) space first, eq-eqb (get_or l (at + 8 + 1) 0) space second)
-      (spaced_digit b [] (λ q. omega arith) ∙ digits_more 0 b [] (omega arith) (omega arith) ∙ ap in_range one))
+      let blank : spaces 8 ≡ take 8 l =
+      ap (to_le_bytes w64) (sym eight) ∙ le_bytes_8 (take 8 l) w (length-take-le 8 l (omega arith)) (take_bytes 8 l byte) (e ∙ ap (from_le_bytes w64) part) in
+      sym (field_spaced l h
+      ∙ ap spaced (sym (take-append-drop 8 l) ∙ ap (λ (t : List ℕ). t ++ drop 8 l) (sym blank))
+      ∙ spaced_pass 8 (drop 8 l)
+      ∙ ap spaced field_back
+      ∙ simp (eq-eqb (get_or l 8 0) space first, eq-eqb (get_or l 9 0) space second)
+      (spaced_digit b [] (λ q. omega arith) ∙ digits_more 0 b [] low high ∙ ap in_range one))
 
   -- eight digits behind a space and the two columns that begin the number
-  pub field_long : (high low : ℕ) → get_or l at 0 ≡ space → ((s : List ℕ) → spaced (get_or l (at + 1) 0 ∷ get_or l (at + 2) 0 ∷ s) ≡ digits high s)
-      → digits 0 (slice (at + 3) (at + 3 + 8) l) ≡ Number low → in_range (high * 100000000 + low) ≡ field_read (slice at (at + field_width) l)
+  pub field_long : (high low : ℕ) → get_or l 0 0 ≡ space → ((s : List ℕ) → spaced (get_or l 1 0 ∷ get_or l 2 0 ∷ s) ≡ digits high s) → digits 0 (drop 3 l) ≡ Some low
+      → in_range (high * 100000000 + low) ≡ field_read l
   unfolding spaced
   field_long high low e lead eight =
-      let end : at + field_width ≡ at + 3 + 8 = omega arith in
-      sym (read_spaced l at h
-      ∙ ap spaced
-      (slice_to l at (at + 1) (at + field_width) (omega arith) h (omega arith)
-      ∙ front _ (slice_to l (at + 1) (at + 2) (at + field_width) (omega arith) h (omega arith)
-      ∙ front _ (slice_to l (at + 2) (at + 3) (at + field_width) (omega arith) h (omega arith)
-      ∙ front _ (ap (λ (m : ℕ). slice (at + 3) m l) end))))
-      ∙ simp (eq-eqb (get_or l at 0) space e)
-      (lead (slice (at + 3) (at + 3 + 8) l) ∙ behind l (at + 3) high low (omega arith) eight))
+      let long : length (drop 3 l) ≡ 8 = length-drop 3 l ∙ omega arith in
+      sym (field_spaced l h
+      ∙ ap spaced field_front
+      ∙ simp (eq-eqb (get_or l 0 0) space e)
+      (lead (drop 3 l)
+      ∙ ap (λ (m : ℕ). digits m (drop 3 l)) (sym (add-zero high))
+      ∙ digits_after high 0 (drop 3 l) low eight
+      ∙ ap (λ (k : ℕ). in_range (high * 10 ^ k + low)) long))

@@ -1,17 +1,14 @@
 -- Bytes put into a buffer at a place, and the turns of the writers' loops. Assumes nothing.
-use Rattle.std.proofs.Common.{◌≡◌, ℕ, suc, ◌+◌, ◌-◌, ◌*◌, ◌/◌, ◌%◌, ◌^◌, ◌<◌, ◌≤◌, List, [], ◌∷◌, ◌++◌, length, get_or, take, drop, set, sym, refl, ap, ◌∙◌, subst, append_assoc, append-nil, add-zero, pow-suc, add-one, arith, length-append, length-drop, take-append-drop, drop_of_length-le, length-take-le, drop-cons, take-suc, drop-drop, take_at, drop_at, le-ltb, lt-ltb}
-use native.Mathlib.Decide.{dec_lt}
-use lib.ListN.{length-replicate, replicate-append-replicate}
+use Rattle.std.proofs.Common.{◌≡◌, ℕ, zero, suc, ◌+◌, ◌-◌, ◌*◌, ◌/◌, ◌%◌, ◌^◌, ◌<◌, ◌≤◌, ◌≢◌, List, [], ◌∷◌, ◌++◌, length, get_or, take, drop, set, sym, refl, ap, ◌∙◌, append_assoc, append-nil, mul_assoc, mul_comm, pow-suc, add-one, arith, length-append, length-drop, drop_of_length-le, length-take-le, drop-cons, take-suc, drop-drop, take_at, le-ltb, lt-ltb}
+use native.Mathlib.Nat.{mul-le-mul_right}
+use lib.ListN.{length-replicate}
+use borrow.Rule.Slice.PartMut.{put_mid}
 use lib.Seq.{set_at, take-length, drop-append-add}
 use Rattle.columns.specs.Field.{field_width, pad, columns, field_of, spaces, put}
 use Rattle.columns.specs.Line.{line_of, written_over, over, put_over}
-use Rattle.columns.proofs.FieldAgain.{spaces_one, columns_none, columns_more, length_columns, length_field}
+use Rattle.columns.proofs.FieldAgain.{spaces_one, columns_none, columns_more, length_field}
 
 -- ---- put
-
-pub put_none : (d : List ℕ) (at : ℕ) → put d at [] ≡ d
-unfolding put
-put_none d at = ap (λ (k : ℕ). take at d ++ drop k d) (add-zero at) ∙ take-append-drop at d
 
 -- a store behind what is put
 pub put_more : (d : List ℕ) (at : ℕ) (s : List ℕ) (b : ℕ) → at + length s < length d → set (put d at s) (at + length s) b ≡ put d at (s ++ (b ∷ []))
@@ -27,45 +24,15 @@ put_more d at s b h =
     ∙ ap (λ (l : List ℕ). take at d ++ l) (sym (append_assoc s (b ∷ []) tail))
     ∙ ap (λ (k : ℕ). take at d ++ ((s ++ (b ∷ [])) ++ drop k d)) one
 
--- a store inside what is put
-pub put_inside : (d : List ℕ) (at : ℕ) (p : List ℕ) (x : ℕ) (q : List ℕ) (b i : ℕ) → at ≤ length d → i ≡ at + length p
-    → set (put d at (p ++ (x ∷ q))) i b ≡ put d at (p ++ (b ∷ q))
-unfolding put
-put_inside d at p x q b i h e =
-    let tail : List ℕ = q ++ drop (at + length (p ++ (x ∷ q))) d in
-    let long : length (take at d ++ p) ≡ i = length-append (take at d) p ∙ ap (λ (k : ℕ). k + length p) (length-take-le at d h) ∙ sym e in
-    let same : length (p ++ (x ∷ q)) ≡ length (p ++ (b ∷ q)) = length-append p (x ∷ q) ∙ sym (length-append p (b ∷ q)) in
-    ap (λ (l : List ℕ). set (take at d ++ l) i b) (append_assoc p (x ∷ q) (drop (at + length (p ++ (x ∷ q))) d))
-    ∙ ap (λ (l : List ℕ). set l i b) (sym (append_assoc (take at d) p (x ∷ tail)))
-    ∙ set_at (take at d ++ p) x tail b i long
-    ∙ append_assoc (take at d) p (b ∷ tail)
-    ∙ ap (λ (l : List ℕ). take at d ++ l) (sym (append_assoc p (b ∷ q) (drop (at + length (p ++ (x ∷ q))) d)))
-    ∙ ap (λ (k : ℕ). take at d ++ ((p ++ (b ∷ q)) ++ drop (at + k) d)) same
-
 pub length_put : (d : List ℕ) (at : ℕ) (s : List ℕ) → at + length s ≤ length d → length (put d at s) ≡ length d
 unfolding put
 length_put d at s h = simp (length-append, length-take-le at d (omega arith), length-drop) (omega arith)
 
--- what is put is put over
-pub put_put : (d : List ℕ) (at : ℕ) (s t : List ℕ) → at ≤ length d → length s ≡ length t → put (put d at s) at t ≡ put d at t
+-- a part of a buffer that was written
+pub put_part : (d s : List ℕ) (at k : ℕ) → k ≡ length s → put_mid at k d s ≡ put d at s
 unfolding put
-put_put d at s t h e =
-    let long : length (take at d) ≡ at = length-take-le at d h in
-    let front : take at (take at d ++ (s ++ drop (at + length s) d)) ≡ take at d = take_at (take at d) (s ++ drop (at + length s) d) at long in
-    let back : drop (at + length t) (take at d ++ (s ++ drop (at + length s) d)) ≡ drop (at + length s) d =
-    ap (drop (at + length t)) (sym (append_assoc (take at d) s (drop (at + length s) d)))
-    ∙ drop_at (take at d ++ s) (drop (at + length s) d) (at + length t) (length-append (take at d) s ∙ omega arith) in
-    ap (λ (l : List ℕ). l ++ (t ++ drop (at + length t) (take at d ++ (s ++ drop (at + length s) d)))) front
-    ∙ ap (λ (l : List ℕ). take at d ++ (t ++ l)) back
-    ∙ ap (λ (k : ℕ). take at d ++ (t ++ drop (at + k) d)) e
-
--- one number more
-pub put_next : (ns d : List ℕ) (at i : ℕ) → i < length ns → at + length ns ≤ length d → set (put d at (take i ns)) (at + i) (get_or ns i 0) ≡ put d at (take (suc i) ns)
-put_next ns d at i h k =
-    let long : length (take i ns) ≡ i = length-take-le i ns (omega arith) in
-    ap (λ (n : ℕ). set (put d at (take i ns)) (at + n) (get_or ns i 0)) (sym long)
-    ∙ put_more d at (take i ns) (get_or ns i 0) (omega (arith, long))
-    ∙ ap (put d at) (sym (take-suc ns i 0 h))
+put_part d s at k e =
+    ap (λ (l : List ℕ). take at d ++ (s ++ l)) (drop-drop k at d) ∙ ap (λ (m : ℕ). take at d ++ (s ++ drop (at + m) d)) e
 
 -- where there is room
 pub put_room : (ns a : List ℕ) (at : ℕ) → at + length ns ≤ length a → put a at ns ≡ put_over at ns a
@@ -77,166 +44,124 @@ pub put_short : (ns a : List ℕ) (at : ℕ) → length a < at + length ns → a
 unfolding put_over
 put_short ns a at h = simp (lt-ltb (length a) (at + length ns) h)
 
--- ---- spaces
+-- ---- a field, from its last columns to its first
 
-pub blank_first : (d : List ℕ) (at : ℕ) → d ≡ put d at (spaces 0)
-blank_first d at = sym (put_none d at)
-
-pub blank_next : (d : List ℕ) (at i : ℕ) → at + i < length d → set (put d at (spaces i)) (at + i) pad ≡ put d at (spaces (i + 1))
-blank_next d at i h =
-    let long : length (spaces i) ≡ i = length-replicate i pad in
-    ap (λ (k : ℕ). set (put d at (spaces i)) (at + k) pad) (sym long)
-    ∙ put_more d at (spaces i) pad (omega arith)
-    ∙ ap (put d at) (replicate-append-replicate i 1 pad)
-
--- ---- a field, from its last column to its first
-
--- the first i - at columns are spaces still, and stand for the columns of rest
-pub record Partly (d out : List ℕ) (at n i rest : ℕ) : Type 0 where
-  pub from : at < i
-  pub to : i ≤ at + field_width
-  pub small : rest < 10 ^ (i - at)
+-- k pairs of digits are written behind spaces, which stand for the columns of rest
+pub record Partly (out : List ℕ) (n k rest : ℕ) : Type 0 where
+  pub few : k ≤ 4
+  pub small : rest * 100 ^ k ≤ n
   pub last : List ℕ
-  pub whole : columns (i - 1 - at) (rest / 10) ++ ((48 + rest % 10) ∷ last) ≡ field_of n
-  pub is : out ≡ put d at (spaces (i - at) ++ last)
+  pub whole : columns (10 - 2 * k) (rest / 10) ++ ((48 + rest % 10) ∷ last) ≡ field_of n
+  pub is : out ≡ spaces (11 - 2 * k) ++ last
+
+-- the place of the pair that is written next
+abbrev pub pair_place : ℕ → ℕ
+pair_place k = get_or (9 ∷ 7 ∷ 5 ∷ 3 ∷ 1 ∷ []) k 0
+
+pair_place_is : (k : ℕ) → k ≤ 4 → pair_place k ≡ 9 - 2 * k
+pair_place_is zero h = refl
+pair_place_is (suc zero) h = refl
+pair_place_is (suc (suc zero)) h = refl
+pair_place_is (suc (suc (suc zero))) h = refl
+pair_place_is (suc (suc (suc (suc zero)))) h = refl
+pair_place_is (suc (suc (suc (suc (suc k))))) h = absurd (omega arith)
 
 -- a store at the last space
-store : (d : List ℕ) (at k : ℕ) (last : List ℕ) (b i : ℕ) → at ≤ length d → i ≡ at + k
-    → set (put d at (spaces (suc k) ++ last)) i b ≡ put d at (spaces k ++ (b ∷ last))
-store d at k last b i h e =
-    ap (λ (l : List ℕ). set (put d at (l ++ last)) i b) (spaces_one k)
-    ∙ ap (λ (l : List ℕ). set (put d at l) i b) (append_assoc (spaces k) (spaces 1) last)
-    ∙ put_inside d at (spaces k) pad last b i h (e ∙ ap (λ (m : ℕ). at + m) (sym (length-replicate k pad)))
+store : (j : ℕ) (last : List ℕ) (b : ℕ) → set (spaces (suc j) ++ last) j b ≡ spaces j ++ (b ∷ last)
+store j last b =
+    ap (λ (l : List ℕ). set (l ++ last) j b) (spaces_one j)
+    ∙ ap (λ (l : List ℕ). set l j b) (append_assoc (spaces j) (spaces 1) last)
+    ∙ set_at (spaces j) pad last b j (length-replicate j pad)
 
-pub partly_first : (d b : List ℕ) (at n : ℕ) → n < 2 ^ 32 → at + field_width ≤ length d → b ≡ put d at (spaces field_width)
-    → Partly b b at n (at + field_width) n
+pub partly_first : (n : ℕ) → Partly (spaces field_width) n 0 n
 unfolding field_of
-partly_first d b at n r h e =
-    let k : at + field_width - at ≡ field_width = omega arith in
-    let j : at + field_width - 1 - at ≡ field_width - 1 = omega arith in
-    record {
-      from = omega arith;
-      to = omega arith;
-      small = rw k (omega arith);
-      last = [];
-      whole = ap (λ (m : ℕ). columns m (n / 10) ++ ((48 + n % 10) ∷ [])) j;
-      is =
-          e
-          ∙ sym (put_put d at (spaces field_width) (spaces field_width) (omega arith) refl)
-          ∙ ap (λ (l : List ℕ). put l at (spaces field_width)) (sym e)
-          ∙ ap (λ (m : ℕ). put b at (spaces m)) (sym k)
-          ∙ ap (put b at) (sym (append-nil (spaces (at + field_width - at))));
-    }
+partly_first n = record { few = omega arith; small = omega arith; last = []; whole = refl; is = sym (append-nil (spaces field_width)) }
 
-module _ (d out : List ℕ) (at n i rest : ℕ) (h : at + field_width ≤ length d) (p : Partly d out at n i rest) where
+module _ (out : List ℕ) (n k rest : ℕ) (p : Partly out n k rest) where
   -- the last column that is a space yet gets its digit
-  put_last : set out (i - 1) (48 + rest % 10) ≡ put d at (spaces (i - 1 - at) ++ ((48 + rest % 10) ∷ p.last))
-  put_last =
-      let low : at < i = p.from in
-      let k : i - at ≡ suc (i - 1 - at) = omega arith in
-      ap (λ (l : List ℕ). set l (i - 1) (48 + rest % 10)) (p.is ∙ ap (λ (m : ℕ). put d at (spaces m ++ p.last)) k)
-      ∙ store d at (i - 1 - at) p.last (48 + rest % 10) (i - 1) (omega arith) (omega arith)
+  put_last : (b : ℕ) → set out (10 - 2 * k) b ≡ spaces (10 - 2 * k) ++ (b ∷ p.last)
+  put_last b =
+      let few : k ≤ 4 = p.few in
+      let one : 11 - 2 * k ≡ suc (10 - 2 * k) = omega arith in
+      ap (λ (l : List ℕ). set l (10 - 2 * k) b) (p.is ∙ ap (λ (m : ℕ). spaces m ++ p.last) one) ∙ store (10 - 2 * k) p.last b
 
-  -- where a digit more is left there is a column before
-  pub partly_more : 10 ≤ rest → at + 1 < i
-  partly_more q =
-      let low : at < i = p.from in
-      elim (dec_lt (at + 1) i) [
-        | yes more ↦ more
-        | no none ↦ let z : i - at ≡ 1 = omega arith in let s : rest < 10 ^ 1 = rw z at p.small in absurd (omega arith)
-      ]
-
-  -- one digit more
-  partly_next : 10 ≤ rest → Partly d (set out (i - 1) (48 + rest % 10)) at n (i - 1) (rest / 10)
-  partly_next q =
-      let less : at + 1 < i = partly_more q in
-      let most : i ≤ at + field_width = p.to in
-      let k : i - 1 - at ≡ suc (i - 1 - 1 - at) = omega arith in
-      let one : i - at ≡ suc (i - 1 - at) = omega arith in
-      let below : rest < 10 ^ (i - 1 - at) * 10 = rw (one, pow-suc 10 (i - 1 - at)) at p.small in
-      record {
-        from = omega arith;
-        to = omega arith;
-        small = omega arith;
-        last = (48 + rest % 10) ∷ p.last;
-        whole =
-            sym (columns_more (i - 1 - 1 - at) (rest / 10) ((48 + rest % 10) ∷ p.last) (omega arith))
-            ∙ ap (λ (m : ℕ). columns m (rest / 10) ++ ((48 + rest % 10) ∷ p.last)) (sym k)
-            ∙ p.whole;
-        is = put_last;
-      }
-
-  -- the first digit
-  partly_end : rest < 10 → set out (i - 1) (48 + rest % 10) ≡ put d at (field_of n)
-  partly_end q =
-      let none : 0 ≡ rest / 10 = omega arith in
-      put_last
-      ∙ ap (put d at)
-      (ap (λ (l : List ℕ). l ++ ((48 + rest % 10) ∷ p.last)) (sym (columns_none (i - 1 - at)))
-      ∙ ap (λ (m : ℕ). columns (i - 1 - at) m ++ ((48 + rest % 10) ∷ p.last)) none
-      ∙ p.whole)
-
-  pub length_partly : length out ≡ length d
-  length_partly =
-      let low : at < i = p.from in
-      let s : List ℕ = spaces (i - at) ++ p.last in
-      let t : List ℕ = (48 + rest % 10) ∷ p.last in
-      let field : length (columns (i - 1 - at) (rest / 10) ++ t) ≡ field_width = ap length p.whole ∙ length_field n in
-      let long : length s ≡ field_width =
-      length-append (spaces (i - at)) p.last
-      ∙ omega (arith, length-replicate (i - at) pad, length_columns (i - 1 - at) (rest / 10), length-append (columns (i - 1 - at) (rest / 10)) t) in
-      ap length p.is ∙ length_put d at s (omega arith)
-
--- two digits more, the later one stored first
-pub partly_pair : (d out next : List ℕ) (at n i rest : ℕ) → at + field_width ≤ length d → Partly d out at n i rest → 100 ≤ rest
-    → next ≡ set (set out (i - 2 + 1) (48 + rest % 100 % 10)) (i - 2) (48 + rest % 100 / 10) → Partly d next at n (i - 2) (rest / 100)
-partly_pair d out next at n i rest h p q e =
-    let one : Partly d (set out (i - 1) (48 + rest % 10)) at n (i - 1) (rest / 10) = partly_next d out at n i rest h p (omega arith) in
-    let two : Partly d (set (set out (i - 1) (48 + rest % 10)) (i - 1 - 1) (48 + rest / 10 % 10)) at n (i - 1 - 1) (rest / 10 / 10) =
-    partly_next d (set out (i - 1) (48 + rest % 10)) at n (i - 1) (rest / 10) h one (omega arith) in
-    let less : at + 1 < i = partly_more d out at n i rest h p (omega arith) in
-    let a : i - 1 ≡ i - 2 + 1 = omega arith in
-    let b : rest % 10 ≡ rest % 100 % 10 = omega arith in
-    let c : i - 1 - 1 ≡ i - 2 = omega arith in
-    let f : rest / 10 % 10 ≡ rest % 100 / 10 = omega arith in
-    let g : rest / 10 / 10 ≡ rest / 100 = omega arith in
-    let same : set (set out (i - 1) (48 + rest % 10)) (i - 1 - 1) (48 + rest / 10 % 10) ≡ next =
-    ap (λ (k : ℕ). set (set out k (48 + rest % 10)) (i - 1 - 1) (48 + rest / 10 % 10)) a
-    ∙ ap (λ (k : ℕ). set (set out (i - 2 + 1) (48 + k)) (i - 1 - 1) (48 + rest / 10 % 10)) b
-    ∙ ap (λ (k : ℕ). set (set out (i - 2 + 1) (48 + rest % 100 % 10)) k (48 + rest / 10 % 10)) c
-    ∙ ap (λ (k : ℕ). set (set out (i - 2 + 1) (48 + rest % 100 % 10)) (i - 2) (48 + k)) f
-    ∙ sym e in
-    subst (λ (o : List ℕ). Partly d o at n (i - 2) (rest / 100)) same
-    (subst (λ (k : ℕ). Partly d (set (set out (i - 1) (48 + rest % 10)) (i - 1 - 1) (48 + rest / 10 % 10)) at n k (rest / 100)) c
-    (subst (λ (k : ℕ). Partly d (set (set out (i - 1) (48 + rest % 10)) (i - 1 - 1) (48 + rest / 10 % 10)) at n (i - 1 - 1) k) g two))
-
--- what is put over the spaces is put over what was there before them
-over_spaces : (d b : List ℕ) (at n : ℕ) → at + field_width ≤ length d → b ≡ put d at (spaces field_width) → put b at (field_of n) ≡ put d at (field_of n)
-over_spaces d b at n h e =
-    ap (λ (l : List ℕ). put l at (field_of n)) e ∙ put_put d at (spaces field_width) (field_of n) (omega arith) (sym (length_field n))
-
-module _ (d b out : List ℕ) (at n i rest : ℕ) (h : at + field_width ≤ length d) (same : length b ≡ length d) (s : b ≡ put d at (spaces field_width)) (p : Partly b out at n i rest) where
   -- the first digit alone
-  pub partly_one : rest < 10 → set out (i - 1) (48 + rest) ≡ put d at (field_of n)
+  pub partly_one : rest < 10 → set out (pair_place k + 1) (48 + rest) ≡ field_of n
   partly_one q =
-      let a : rest ≡ rest % 10 = omega arith in
-      ap (λ (k : ℕ). set out (i - 1) (48 + k)) a ∙ partly_end b out at n i rest (omega arith) p q ∙ over_spaces d b at n h s
+      let few : k ≤ 4 = p.few in
+      let none : 0 ≡ rest / 10 = omega arith in
+      let same : rest ≡ rest % 10 = omega arith in
+      let at : pair_place k + 1 ≡ 10 - 2 * k = omega (arith, pair_place_is k few) in
+      ap (λ (i : ℕ). set out i (48 + rest)) at
+      ∙ put_last (48 + rest)
+      ∙ ap (λ (b : ℕ). spaces (10 - 2 * k) ++ ((48 + b) ∷ p.last)) same
+      ∙ ap (λ (l : List ℕ). l ++ ((48 + rest % 10) ∷ p.last)) (sym (columns_none (10 - 2 * k)))
+      ∙ ap (λ (m : ℕ). columns (10 - 2 * k) m ++ ((48 + rest % 10) ∷ p.last)) none
+      ∙ p.whole
 
-  -- the first two digits
-  pub partly_two : (last : List ℕ) → 10 ≤ rest → rest < 100 → last ≡ set (set out (i - 2 + 1) (48 + rest % 10)) (i - 2) (48 + rest / 10)
-      → last ≡ put d at (field_of n)
-  partly_two last low high e =
-      let one : Partly b (set out (i - 1) (48 + rest % 10)) at n (i - 1) (rest / 10) = partly_next b out at n i rest (omega arith) p low in
-      let less : at + 1 < i = partly_more b out at n i rest (omega arith) p low in
-      let a : i - 2 + 1 ≡ i - 1 = omega arith in
-      let c : i - 2 ≡ i - 1 - 1 = omega arith in
-      let f : rest / 10 ≡ rest / 10 % 10 = omega arith in
-      e
-      ∙ ap (λ (k : ℕ). set (set out k (48 + rest % 10)) (i - 2) (48 + rest / 10)) a
-      ∙ ap (λ (k : ℕ). set (set out (i - 1) (48 + rest % 10)) k (48 + rest / 10)) c
-      ∙ ap (λ (k : ℕ). set (set out (i - 1) (48 + rest % 10)) (i - 1 - 1) (48 + k)) f
-      ∙ partly_end b (set out (i - 1) (48 + rest % 10)) at n (i - 1) (rest / 10) (omega arith) one (omega arith)
-      ∙ over_spaces d b at n h s
+  module _ (more : 10 ≤ rest) (next : List ℕ) (e : next ≡ set (set out (pair_place k + 1) (48 + rest % 100 % 10)) (pair_place k) (48 + rest % 100 / 10)) where
+    -- the pair behind the spaces
+    pair : List ℕ
+    pair = (48 + rest / 10 % 10) ∷ (48 + rest % 10) ∷ p.last
+
+    put_pair : next ≡ spaces (9 - 2 * k) ++ pair
+    unfolding pair
+    put_pair =
+        let few : k ≤ 4 = p.few in
+        let one : 10 - 2 * k ≡ suc (9 - 2 * k) = omega arith in
+        let low : rest % 100 % 10 ≡ rest % 10 = omega arith in
+        let high : rest % 100 / 10 ≡ rest / 10 % 10 = omega arith in
+        let at : pair_place k ≡ 9 - 2 * k = pair_place_is k few in
+        let behind : pair_place k + 1 ≡ 10 - 2 * k = omega arith in
+        e
+        ∙ ap (λ (i : ℕ). set (set out i (48 + rest % 100 % 10)) (pair_place k) (48 + rest % 100 / 10)) behind
+        ∙ ap (λ (i : ℕ). set (set out (10 - 2 * k) (48 + rest % 100 % 10)) i (48 + rest % 100 / 10)) at
+        ∙ ap (λ (l : List ℕ). set l (9 - 2 * k) (48 + rest % 100 / 10)) (put_last (48 + rest % 100 % 10))
+        ∙ ap (λ (m : ℕ). set (spaces m ++ ((48 + rest % 100 % 10) ∷ p.last)) (9 - 2 * k) (48 + rest % 100 / 10)) one
+        ∙ store (9 - 2 * k) ((48 + rest % 100 % 10) ∷ p.last) (48 + rest % 100 / 10)
+        ∙ ap (λ (b : ℕ). spaces (9 - 2 * k) ++ ((48 + b) ∷ (48 + rest % 100 % 10) ∷ p.last)) high
+        ∙ ap (λ (b : ℕ). spaces (9 - 2 * k) ++ ((48 + rest / 10 % 10) ∷ (48 + b) ∷ p.last)) low
+
+    whole_pair : columns (9 - 2 * k) (rest / 10 / 10) ++ pair ≡ field_of n
+    unfolding pair
+    whole_pair =
+        let few : k ≤ 4 = p.few in
+        let one : suc (9 - 2 * k) ≡ 10 - 2 * k = omega arith in
+        sym (columns_more (9 - 2 * k) (rest / 10) ((48 + rest % 10) ∷ p.last) (omega arith))
+        ∙ ap (λ (m : ℕ). columns m (rest / 10) ++ ((48 + rest % 10) ∷ p.last)) one
+        ∙ p.whole
+
+    -- the first two digits
+    pub partly_two : rest / 100 ≡ 0 → next ≡ field_of n
+    partly_two q =
+        let none : 0 ≡ rest / 10 / 10 = omega arith in
+        put_pair
+        ∙ ap (λ (l : List ℕ). l ++ pair) (sym (columns_none (9 - 2 * k)))
+        ∙ ap (λ (m : ℕ). columns (9 - 2 * k) m ++ pair) none
+        ∙ whole_pair
+
+    -- two digits more
+    pub partly_pair : n < 2 ^ 32 → (rest / 100 ≡ 0 → ⊥) → Partly next n (k + 1) (rest / 100)
+    unfolding pair
+    partly_pair fits q =
+        let few : k ≤ 4 = p.few in
+        let small : rest * 100 ^ k ≤ n = p.small in
+        let least : rest / 100 * 100 * 100 ^ k ≤ rest * 100 ^ k = mul-le-mul_right (100 ^ k) (omega arith) in
+        let power : rest / 100 * 100 * 100 ^ k ≡ rest / 100 * 100 ^ suc k = mul_assoc (rest / 100) 100 (100 ^ k) ∙ ap (λ (m : ℕ). rest / 100 * m) (mul_comm 100 (100 ^ k) ∙ sym (pow-suc 100 k)) in
+        let under : k ≢ 4 = λ e. let s : rest * 100 ^ 4 ≤ n = rw e at small in omega arith in
+        let two : 9 - 2 * k ≡ suc (10 - 2 * (k + 1)) = omega arith in
+        let hundred : rest / 10 / 10 ≡ rest / 100 = omega arith in
+        record {
+          few = omega arith;
+          small = rw (add-one k) (omega arith);
+          last = pair;
+          whole =
+              sym (columns_more (10 - 2 * (k + 1)) (rest / 100) pair (omega arith))
+              ∙ ap (λ (m : ℕ). columns m (rest / 100) ++ pair) (sym two)
+              ∙ ap (λ (m : ℕ). columns (9 - 2 * k) m ++ pair) (sym hundred)
+              ∙ whole_pair;
+          is = put_pair ∙ ap (λ (m : ℕ). spaces m ++ pair) (omega arith);
+        }
 
 -- ---- several fields
 
@@ -317,34 +242,33 @@ numbers_next d ns k h =
     ∙ ap (λ (m : ℕ). line_of (take (k + 1) ns) ++ drop m d) wide
 
 -- the first k numbers are written
-pub record Wrote (d ns out : List ℕ) (at k : ℕ) : Type 0 where
-  pub most : k ≤ length ns
-  pub place : at ≡ field_width * k
+pub record Wrote (d ns out : List ℕ) (k : ℕ) : Type 0 where
   pub is : out ≡ line_of (take k ns) ++ drop (field_width * k) d
   pub long : length out ≡ length d
 
-pub wrote_first : (d ns : List ℕ) → Wrote d ns d 0 0
+pub wrote_first : (d ns : List ℕ) → Wrote d ns d 0
 unfolding line_of
-wrote_first d ns = record { most = omega arith; place = refl; is = refl; long = refl }
+wrote_first d ns = record { is = refl; long = refl }
 
-pub wrote_next : (d ns out next : List ℕ) (at k : ℕ) → k < length ns → length next ≡ length out → next ≡ put out at (field_of (get_or ns k 0))
-    → Wrote d ns out at k → Wrote d ns next (at + field_width) (k + 1)
-wrote_next d ns out next at k h same e w =
-    let a : at ≡ field_width * k = w.place in
+pub wrote_next : (d ns out f : List ℕ) (k : ℕ) → k < length ns → length ns ≤ length d / field_width → f ≡ field_of (get_or ns k 0) → Wrote d ns out k
+    → Wrote d ns (put_mid (k * 11) ((k + 1) * 11 - k * 11) out f) (k + 1)
+wrote_next d ns out f k h room e w =
+    let long : length out ≡ length d = w.long in
+    let wide : length f ≡ field_width = ap length e ∙ length_field (get_or ns k 0) in
+    let place : k * 11 ≡ field_width * k = omega arith in
+    let part : put_mid (k * 11) ((k + 1) * 11 - k * 11) out f ≡ put out (field_width * k) f =
+    put_part out f (k * 11) ((k + 1) * 11 - k * 11) (omega arith) ∙ ap (λ (i : ℕ). put out i f) place in
     record {
-      most = omega arith;
-      place = omega arith;
       is =
-          e
-          ∙ ap (λ (i : ℕ). put out i (field_of (get_or ns k 0))) a
+          part
+          ∙ ap (put out (field_width * k)) e
           ∙ ap (λ (l : List ℕ). put l (field_width * k) (field_of (get_or ns k 0))) w.is
           ∙ numbers_next d ns k h;
-      long = same ∙ w.long;
+      long = ap length part ∙ length_put out (field_width * k) f (omega arith) ∙ long;
     }
 
-pub wrote_last : (d ns out : List ℕ) (at k : ℕ) → length ns ≤ k → Wrote d ns out at k → out ≡ line_of ns ++ drop (field_width * length ns) d
-wrote_last d ns out at k h w =
-    let e : k ≡ length ns = let m : k ≤ length ns = w.most in omega arith in
+pub wrote_last : (d ns out : List ℕ) (k : ℕ) → k ≡ length ns → Wrote d ns out k → out ≡ line_of ns ++ drop (field_width * length ns) d
+wrote_last d ns out k e w =
     w.is
     ∙ ap (λ (m : ℕ). line_of (take m ns) ++ drop (field_width * m) d) e
     ∙ ap (λ (l : List ℕ). line_of l ++ drop (field_width * length ns) d) (take-length ns)

@@ -1,46 +1,39 @@
 -- A line of document 01's sheet: the numbers of its fields, or refusal 2.
-use Rattle.std.specs.Prelude.{ℕ, zero, suc, ◌+◌, ◌*◌, ◌/◌, ◌%◌, ◌^◌, ◌<◌, Bool, cond, ◌&&◌, List, [], ◌∷◌, ◌++◌, length, take, drop, ◌==◌, from_bits, nat_le, nat_lt, slice_index, Float}
+use Rattle.std.specs.Prelude.{ℕ, zero, suc, ◌+◌, ◌*◌, ◌/◌, ◌%◌, ◌^◌, ◌<◌, Bool, cond, ◌&&◌, Option, Some, None, Result, Ok, Err, List, [], ◌∷◌, ◌++◌, length, take, drop, ◌==◌, from_bits, nat_le, nat_lt, slice_index, Float}
 use Rattle.std.specs.Float.{binary32}
-use Rattle.columns.specs.declared.field.FieldRead.{FieldRead}
-use Rattle.columns.specs.declared.field.FieldRead.TheVariants.{Number, Bad}
-use Rattle.columns.specs.declared.line.LineRead.{LineRead}
-use Rattle.columns.specs.declared.line.LineRead.TheVariants.{Numbers, Broken, NoRoom}
+use Rattle.columns.specs.declared.line.LineError.{LineError}
+use Rattle.columns.specs.declared.line.LineError.TheVariants.{Broken, NoRoom}
 use Rattle.columns.specs.Field.{field_width, field_read, field_of, put}
 
 -- "At most 130 fields"
 abbrev pub line_fields : ℕ
 line_fields = 130
 
--- what a line says: its numbers, or that it is no sheet line
-pub data Reading : Type 0 where
-  read : List ℕ → Reading
-  broken : Reading
-
 -- a number in front of what the rest says
-unfoldable pub onto : ℕ → Reading → Reading
-onto n (read ns) = read (n ∷ ns)
-onto n broken = broken
+unfoldable pub onto : ℕ → Option (List ℕ) → Option (List ℕ)
+onto n (Some ns) = Some (n ∷ ns)
+onto n None = None
 
 -- a field in front of what the rest says: "a bad field" breaks the line
-unfoldable pub before : FieldRead → Reading → Reading
-before (Number n) r = onto n r
-before Bad r = broken
+unfoldable pub before : Option ℕ → Option (List ℕ) → Option (List ℕ)
+before (Some n) r = onto n r
+before None r = None
 
--- the first k fields
-unfoldable pub fields : ℕ → List ℕ → Reading
-fields zero s = read []
+-- the numbers of the first k fields, where none of them is bad
+unfoldable pub fields : ℕ → List ℕ → Option (List ℕ)
+fields zero s = Some []
 fields (suc k) s = before (field_read (take field_width s)) (fields k (drop field_width s))
 
 -- refusal 2's other causes: "length 0, no multiple of 11, over 1,430"
 unfoldable pub length_ok : ℕ → ℕ → Bool
 length_ok limit n = nat_lt 0 n && (n % field_width == 0 && nat_le n (field_width * limit))
 
--- what a line says that may have so many fields
-unfoldable pub read_within : ℕ → List ℕ → Reading
-read_within limit s = cond (length_ok limit (length s)) (fields (length s / field_width) s) broken
+-- the numbers of a line that may have so many fields, or None where it is no sheet line
+unfoldable pub read_within : ℕ → List ℕ → Option (List ℕ)
+read_within limit s = cond (length_ok limit (length s)) (fields (length s / field_width) s) None
 
 -- what a line of document 01's kinds says
-abbrev pub read_line_of : List ℕ → Reading
+abbrev pub read_line_of : List ℕ → Option (List ℕ)
 read_line_of s = read_within line_fields s
 
 -- the line of several numbers: their fields, one after the other
@@ -70,18 +63,18 @@ InRange [] = Unit
 InRange (n ∷ ns) = (n < 2 ^ 32) × InRange ns
 
 -- the answer to a reading: how many numbers, or refusal 2
-abbrev pub count_of : Reading → LineRead
-count_of (read ns) = Numbers (length ns)
-count_of broken = Broken
+abbrev pub count_of : Option (List ℕ) → Result ℕ LineError
+count_of (Some ns) = Ok (length ns)
+count_of None = Err Broken
 
 -- what `read_line` answers with so many places: how many numbers, refusal 2, or that the places are fewer than the fields of a line whose length is right
-unfoldable pub line_answer : ℕ → List ℕ → ℕ → LineRead
-line_answer limit s places = cond (length_ok limit (length s) && nat_lt places (length s / field_width)) NoRoom (count_of (read_within limit s))
+unfoldable pub line_answer : ℕ → List ℕ → ℕ → Result ℕ LineError
+line_answer limit s places = cond (length_ok limit (length s) && nat_lt places (length s / field_width)) (Err NoRoom) (count_of (read_within limit s))
 
 -- a field's number in front of others: none from "a bad field" on
-unfoldable pub up_to : FieldRead → List ℕ → List ℕ
-up_to (Number n) ns = n ∷ ns
-up_to Bad ns = []
+unfoldable pub up_to : Option ℕ → List ℕ → List ℕ
+up_to (Some n) ns = n ∷ ns
+up_to None ns = []
 
 -- the numbers of the first k fields before the first bad one
 unfoldable pub leading : ℕ → List ℕ → List ℕ

@@ -1,21 +1,14 @@
 // A field: one decimal number, right-justified in spaces.
 
-ghost use Rattle.std.specs.Prelude.{◌≡◌, ℕ, ◌+◌, ◌*◌, ◌/◌, ◌%◌, ◌<◌, ◌≤◌, List, ◌∷◌, length, slice_set};
-ghost use Rattle.std.proofs.Math.Seq.{slice};
-ghost use Rattle.columns.specs.Field.{field_width, number_limit, in_range, digits, spaced, field_read, kind_of, two_at, eight_at, SkipsTo, DigitOf, field_of, spaces, put};
+ghost use Rattle.std.specs.Prelude.{◌≡◌, ℕ, ◌+◌, ◌-◌, ◌/◌, ◌%◌, ◌^◌, ◌<◌, ◌≤◌, not, ◌==◌, List, ◌∷◌, length, slice_set, position, option_and_then, IfSome, SomeIff};
+ghost use Rattle.columns.specs.Field.{field_width, space, in_range, digits, spaced, field_read, kind_of, field_of};
 ghost use Rattle.columns.specs.Line.{written_over};
 
 // The bytes of a field.
 pub const FIELD: usize = 11;
 
-// One more than the largest number of a field.
-pub const NUMBER_LIMIT: u64 = 4_294_967_296;
-
 // Eight spaces.
-const SPACES: u64 = 0x2020_2020_2020_2020;
-
-// Two spaces.
-const TWO_SPACES: u64 = 0x2020;
+const EIGHT_SPACES: u64 = 0x2020_2020_2020_2020;
 
 // Eight digits 0.
 const ZEROS: u64 = 0x3030_3030_3030_3030;
@@ -32,241 +25,144 @@ const PAIRS: u64 = 0x00ff_00ff_00ff_00ff;
 // The lower half of each of two fours.
 const FOURS: u64 = 0x0000_ffff_0000_ffff;
 
-// What a field says.
-#[derive(Clone, Copy)]
-pub enum FieldRead {
-    Number(u32),
-    Bad,
+// The number of a digit.
+fn digit(b: u8) -> Option<u64>
+    ensures { SomeIff result ((48 ≤ b) × (b ≤ 57)) (b - 48) }
+{
+    let d = b.wrapping_sub(b'0');
+    (d < 10).then_some(u64::from(d))
 }
 
-// The place of the first byte from `at` on that is no space, or `end`.
-fn skip_spaces(line: &[u8], at: usize, end: usize) -> usize
-    requires { (at ≤ end) × (end ≤ length line.now) }
-    ensures { SkipsTo line.now at end result }
+// The place of a field's first byte that is no space.
+fn start_of(field: &[u8; FIELD]) -> Option<usize>
+    ensures { result ≡ position (λ b. not (b == space)) field.now }
 {
-    let mut i = at;
-    while i < end {
-        if line[i] != b' ' {
-            return i;
-        }
-        i += 1;
+    field.iter().position(|b| *b != b' ')
+}
+
+// The number of a field, read byte by byte, in range or not. No `parse`: it takes a sign and leading zeros. By itself, so that the loop of the faster readers stays short (docs/SPEED.md).
+#[inline(never)]
+fn read_plain(field: &[u8; FIELD]) -> Option<u64>
+    ensures { option_and_then in_range result ≡ field_read field.now }
+{
+    let start = start_of(field)?;
+    let number = &field[start..];
+    if number[0] == b'0' && number.len() > 1 {
+        return None;
     }
-    i
-}
-
-// The number of a digit, or at least 10.
-fn digit(b: u8) -> u64
-    ensures { DigitOf b result }
-{
-    std::num::wrapping_sub_u8(b, b'0') as u64
-}
-
-// The number that the bytes from `from` to `end` write in decimal, or NUMBER_LIMIT.
-fn read_digits(line: &[u8], from: usize, end: usize) -> u64
-    requires { (from ≤ end) × ((end ≤ from + field_width) × (end ≤ length line.now)) }
-    ensures { in_range result ≡ digits 0 (slice from end line.now) }
-{
     let mut v: u64 = 0;
-    let mut i = from;
-    while i < end {
-        let d = digit(line[i]);
-        if 10 <= d {
-            return NUMBER_LIMIT;
-        }
-        v = v * 10 + d;
-        i += 1;
+    for b in number {
+        v = v * 10 + digit(*b)?;
     }
-    v
+    Some(v)
 }
 
-// The number of the field at `at`, read byte by byte, or at least NUMBER_LIMIT.
-fn read_plain(line: &[u8], at: usize) -> u64
-    requires { at + field_width ≤ length line.now }
-    ensures { in_range result ≡ field_read (slice at (at + field_width) line.now) }
+// The number that eight digits write: digits are joined to pairs, pairs to fours, and fours to the number.
+fn read_eight(bytes: &[u8; 8]) -> Option<u64>
+    ensures { IfSome result (λ v. (v < 10 ^ 8) × (digits 0 bytes.now ≡ Some v)) }
 {
-    let end = at + FIELD;
-    let start = skip_spaces(line, at, end);
-    if end <= start {
-        return NUMBER_LIMIT;
-    }
-    if line[start] == b'0' {
-        if start + 1 < end {
-            return NUMBER_LIMIT;
-        }
-        return 0;
-    }
-    read_digits(line, start, end)
-}
-
-// Two bytes as a number, the first the lowest.
-fn two(line: &[u8], at: usize) -> u64
-    requires { at + 2 ≤ length line.now }
-    ensures { (result ≡ two_at line.now at) × (result < 65536) }
-{
-    (line[at] as u64) + (line[at + 1] as u64) * 256
-}
-
-// Eight bytes as a number.
-fn eight(line: &[u8], at: usize) -> u64
-    requires { at + 8 ≤ length line.now }
-    ensures { result ≡ eight_at line.now at }
-{
-    two(line, at)
-        + two(line, at + 2) * 65_536
-        + two(line, at + 4) * 4_294_967_296
-        + two(line, at + 6) * 281_474_976_710_656
-}
-
-// The number that the eight bytes at `at` write in decimal, or NUMBER_LIMIT: digits are joined to pairs, pairs to fours, and fours to the number.
-fn read_eight(line: &[u8], at: usize) -> u64
-    requires { at + 8 ≤ length line.now }
-    ensures { result < number_limit → digits 0 (slice at (at + 8) line.now) ≡ FieldRead.Number result }
-{
-    let w = eight(line, at);
-    if w & HIGH_HALVES != ZEROS {
-        return NUMBER_LIMIT;
-    }
-    if (w + SIXES) & HIGH_HALVES != ZEROS {
-        return NUMBER_LIMIT;
+    let w = u64::from_le_bytes(*bytes);
+    if w & HIGH_HALVES != ZEROS || (w + SIXES) & HIGH_HALVES != ZEROS {
+        return None;
     }
     let x = w - ZEROS;
     let y = (x * 10 + x / 256) & PAIRS;
     let z = (y * 100 + y / 65_536) & FOURS;
-    (z * 10_000 + z / 4_294_967_296) % 4_294_967_296
+    Some((z * 10_000 + z / 4_294_967_296) % 4_294_967_296)
 }
 
-// The number that `a` and `b` write in front of further digits, two digits or a digit behind a space, or 100.
-fn lead(a: u8, b: u8) -> u64
-    ensures { result < 100 → (s : List ℕ) → spaced (a ∷ b ∷ s) ≡ digits result s }
+// The number of a digit that may begin a number: any but 0.
+fn first_digit(b: u8) -> Option<u64>
+    ensures { SomeIff result ((48 < b) × (b ≤ 57)) (b - 48) }
 {
-    let tens = digit(a);
-    let ones = digit(b);
-    if 10 <= ones {
-        return 100;
-    }
+    digit(b).filter(|d| *d != 0)
+}
+
+// The number that `a` and `b` write in front of further digits: two digits, or a digit behind a space.
+fn lead(a: u8, b: u8) -> Option<u64>
+    ensures { IfSome result (λ v. (v < 100) × ((s : List ℕ) → spaced (a ∷ b ∷ s) ≡ digits v s)) }
+{
     if a == b' ' {
-        if ones == 0 {
-            return 100;
-        }
-        return ones;
+        return first_digit(b);
     }
-    if tens == 0 {
-        return 100;
-    }
-    if 10 <= tens {
-        return 100;
-    }
-    tens * 10 + ones
+    Some(first_digit(a)? * 10 + digit(b)?)
 }
 
-// The number of the field at `at`, or at least NUMBER_LIMIT: nine or ten digits at once.
-fn read_long(line: &[u8], at: usize) -> u64
-    requires { at + field_width ≤ length line.now }
-    ensures { in_range result ≡ field_read (slice at (at + field_width) line.now) }
+// The number of a field of nine or ten digits, in range or not.
+fn read_long(field: &[u8; FIELD]) -> Option<u64>
+    ensures { IfSome result (λ v. in_range v ≡ field_read field.now) }
 {
-    if line[at] != b' ' {
-        return read_plain(line, at);
+    if field[0] != b' ' {
+        return None;
     }
-    let high = lead(line[at + 1], line[at + 2]);
-    if 100 <= high {
-        return read_plain(line, at);
-    }
-    let low = read_eight(line, at + 3);
-    if NUMBER_LIMIT <= low {
-        return read_plain(line, at);
-    }
-    high * 100_000_000 + low
+    let high = lead(field[1], field[2])?;
+    let low = read_eight(field.last_chunk::<8>()?)?;
+    Some(high * 100_000_000 + low)
 }
 
-// The number of the field at `at`, or at least NUMBER_LIMIT: a digit behind spaces at once.
-fn read_value(line: &[u8], at: usize) -> u64
-    requires { at + field_width ≤ length line.now }
-    ensures { in_range result ≡ field_read (slice at (at + field_width) line.now) }
+// The number of a field of one digit.
+fn read_one(field: &[u8; FIELD]) -> Option<u64>
+    ensures { IfSome result (λ v. in_range v ≡ field_read field.now) }
 {
-    if eight(line, at) != SPACES {
-        return read_long(line, at);
+    let front = u64::from_le_bytes(*field.first_chunk::<8>()?);
+    if front != EIGHT_SPACES || field[8] != b' ' || field[9] != b' ' {
+        return None;
     }
-    if two(line, at + 8) != TWO_SPACES {
-        return read_plain(line, at);
-    }
-    let last = digit(line[at + 10]);
-    if 10 <= last {
-        return read_plain(line, at);
-    }
-    last
+    digit(field[10])
 }
 
-// What the field at `at` says.
-pub(crate) fn read_field(line: &[u8], at: usize) -> FieldRead
-    requires { at + field_width ≤ length line.now }
-    ensures { result ≡ field_read (slice at (at + field_width) line.now) }
+// What a field says: the commonest forms first.
+pub(crate) fn read_field(field: &[u8; FIELD]) -> Option<u32>
+    ensures { result ≡ field_read field.now }
 {
-    let v = read_value(line, at);
-    if v < NUMBER_LIMIT {
-        return FieldRead::Number(v as u32);
-    }
-    FieldRead::Bad
+    let v = read_one(field)
+        .or_else(|| read_long(field))
+        .or_else(|| read_plain(field))?;
+    u32::try_from(v).ok()
 }
 
 // What bytes that are to be one field say.
-pub fn read_field_of(field: &[u8]) -> FieldRead
+pub fn read_field_of(field: &[u8]) -> Option<u32>
     ensures { result ≡ field_read field.now }
 {
-    if field.len() != FIELD {
-        return FieldRead::Bad;
-    }
-    read_field(field, 0)
+    read_field(field.as_array::<FIELD>()?)
 }
 
-// The number of a line's first field, or at least NUMBER_LIMIT.
-pub fn read_kind(line: &[u8]) -> u64
-    ensures { in_range result ≡ kind_of line.now }
+// What a line's first field says.
+pub fn read_kind(line: &[u8]) -> Option<u32>
+    ensures { result ≡ kind_of line.now }
 {
-    if line.len() < FIELD {
-        return NUMBER_LIMIT;
-    }
-    read_plain(line, 0)
-}
-
-// Spaces in the field at `at`.
-fn blank(out: &mut [u8], at: usize)
-    requires { at + field_width ≤ length out.old }
-    ensures { out.new ≡ put out.old at (spaces field_width) }
-{
-    let mut i = 0;
-    while i < FIELD {
-        out[at + i] = b' ';
-        i += 1;
-    }
+    read_field(line.first_chunk::<FIELD>()?)
 }
 
 // The two digits of `k` at `at`.
-fn write_pair(out: &mut [u8], at: usize, k: u32)
-    requires { (k < 100) × (at + 2 ≤ length out.old) }
-    ensures { out.new ≡ slice_set (slice_set out.old (at + 1) (48 + k % 10)) at (48 + k / 10) }
+fn write_pair(field: &mut [u8], at: usize, k: u32)
+    requires { (k < 100) × (at + 2 ≤ length field.old) }
+    ensures { field.new ≡ slice_set (slice_set field.old (at + 1) (48 + k % 10)) at (48 + k / 10) }
 {
-    out[at + 1] = (48 + k % 10) as u8;
-    out[at] = (48 + k / 10) as u8;
+    field[at + 1] = (48 + k % 10) as u8;
+    field[at] = (48 + k / 10) as u8;
 }
 
-// `n` in the field at `at`.
-fn write_field(out: &mut [u8], at: usize, n: u32)
-    requires { at + field_width ≤ length out.old }
-    ensures { out.new ≡ put out.old at (field_of n) }
+// The field of `n`: spaces, and then two digits a turn, the last ones first. A slice: once a part of the buffer is lent as an array nothing is known of its bytes.
+// No `write!` of `{n:>11}`: with it the program takes half as many instructions again.
+fn write_field(field: &mut [u8], n: u32)
+    requires { length field.old ≡ field_width }
+    ensures { field.new ≡ field_of n }
 {
-    blank(out, at);
-    let mut i = at + FIELD;
+    field.fill(b' ');
     let mut rest = n;
-    while 100 <= rest {
-        i -= 2;
-        write_pair(out, i, rest % 100);
-        rest = rest / 100;
+    for at in [9, 7, 5, 3, 1] {
+        if rest < 10 {
+            field[at + 1] = (48 + rest) as u8;
+            return;
+        }
+        write_pair(field, at, rest % 100);
+        rest /= 100;
+        if rest == 0 {
+            return;
+        }
     }
-    if rest < 10 {
-        out[i - 1] = (48 + rest) as u8;
-        return;
-    }
-    write_pair(out, i - 2, rest);
 }
 
 // A field for each number, from the start on, where the buffer has room for all of them; else nothing.
@@ -276,11 +172,8 @@ pub fn write_numbers(out: &mut [u8], numbers: &[u32])
     if out.len() / FIELD < numbers.len() {
         return;
     }
-    let mut at = 0;
-    let mut k = 0;
-    while k < numbers.len() {
-        write_field(out, at, numbers[k]);
-        at += FIELD;
-        k += 1;
+    // No zip: a proof knows nothing of the buffer after a loop over its chunks_exact_mut.
+    for (k, n) in numbers.iter().enumerate() {
+        write_field(&mut out[k * FIELD..(k + 1) * FIELD], *n);
     }
 }

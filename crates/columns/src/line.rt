@@ -3,64 +3,59 @@
 ghost use Rattle.std.specs.Prelude.{◌≡◌, length};
 ghost use Rattle.columns.specs.Line.{line_answer, numbers_over, put_over};
 
-use crate::field::{FIELD, FieldRead, read_field};
+use crate::field::{FIELD, read_field};
+use std::error::Error;
+use std::fmt;
 
 // The fields of a line of document 01's kinds, at most.
 pub const LINE_FIELDS: usize = 130;
 
-// What a line says: how many numbers, which the caller's array holds, or that it is no sheet line, or that it has more fields than the array has places.
-#[derive(Clone, Copy)]
-pub enum LineRead {
-    Numbers(usize),
+// Why a line's numbers are not answered: it is no sheet line, or it has more fields than the array has places.
+#[derive(Clone, Copy, Debug, PartialEq, Eq, Hash)]
+pub enum LineError {
     Broken,
     NoRoom,
 }
 
-// The numbers of a line that may have so many fields, from the array's start on, as far as the first bad field.
-pub fn read_line(line: &[u8], limit: usize, numbers: &mut [u32]) -> LineRead
+impl fmt::Display for LineError {
+    fn fmt<W: fmt::Write>(&self, f: &mut fmt::Formatter<W>) -> fmt::Result {
+        f.write_str(match self {
+            LineError::Broken => "no line of a sheet",
+            LineError::NoRoom => "more fields than places",
+        })
+    }
+}
+
+impl Error for LineError {}
+
+// How many numbers a line has that may have so many fields: they are in the array, from its start on, as far as the first bad field.
+pub fn read_line(line: &[u8], limit: usize, numbers: &mut [u32]) -> Result<usize, LineError>
     ensures value { result ≡ line_answer limit line.now (length numbers.old) }
     ensures numbers_after { numbers.new ≡ numbers_over limit line.now numbers.old }
 {
-    let n = line.len();
-    if n == 0 {
-        return LineRead::Broken;
-    }
-    if n % FIELD != 0 {
-        return LineRead::Broken;
-    }
-    let count = n / FIELD;
-    if limit < count {
-        return LineRead::Broken;
+    let (fields, []) = line.as_chunks::<FIELD>() else {
+        return Err(LineError::Broken);
+    };
+    let count = fields.len();
+    if count == 0 || limit < count {
+        return Err(LineError::Broken);
     }
     if numbers.len() < count {
-        return LineRead::NoRoom;
+        return Err(LineError::NoRoom);
     }
-    let mut at = 0;
-    let mut k = 0;
-    while k < count {
-        let FieldRead::Number(v) = read_field(line, at) else {
-            return LineRead::Broken;
-        };
-        numbers[k] = v;
-        at += FIELD;
-        k += 1;
+    // No zip: a proof knows nothing of the array after a loop that zips its iter_mut.
+    for (k, field) in fields.iter().enumerate() {
+        numbers[k] = read_field(field).ok_or(LineError::Broken)?;
     }
-    LineRead::Numbers(k)
+    Ok(count)
 }
 
 // These numbers in the array, from `at` on, where it has room for all of them; else nothing.
 pub fn put_numbers(numbers: &mut [u32], at: usize, part: &[u32])
     ensures { numbers.new ≡ put_over at part.now numbers.old }
 {
-    if numbers.len() < part.len() {
+    if numbers.len() < part.len() || numbers.len() - part.len() < at {
         return;
     }
-    if numbers.len() - part.len() < at {
-        return;
-    }
-    let mut i = 0;
-    while i < part.len() {
-        numbers[at + i] = part[i];
-        i += 1;
-    }
+    numbers[at..at + part.len()].copy_from_slice(part);
 }

@@ -1,137 +1,95 @@
 -- The turns of `drain`: lines answered a buffer at a time; and the last line of `finish`. Assumes nothing.
-use Prim.Native.Nat.{ℕ, zero, suc, ◌+◌, ◌≤◌, ◌<◌}
-use native.Mathlib.Nat.{zero-add, suc-add}
-use native.Mathlib.Numerals.{add-one}
-use native.Mathlib.Omega.{arith}
-use mathlib.Core.Path.{◌≡◌, refl, sym, ap, ◌∙◌}
-use mathlib.Core.List.{List, [], ◌∷◌, ◌++◌}
-use lib.ListN.{length, set, take, drop, length-take, length-drop, length-append}
-use lib.Seq.{length-take-le, take_all, take-suc-set}
+use Rattle.std.proofs.Common.{ℕ, ◌+◌, ◌≤◌, ◌<◌, ◌≡◌, refl, sym, ap, ◌∙◌, List, [], ◌∷◌, ◌++◌, length, set, take, drop, add-one, arith, length-append, take-append-drop}
+use Rattle.std.proofs.lemmas.List.{nil_from_length}
+use Rattle.std.proofs.Math.Seq.{length-take-le, take-suc-set, drop-drop}
 use Rattle.falcon_core.specs.declared.supervisor.Supervisor.{Supervisor}
-use Rattle.sheet.specs.declared.many.Progress.{Progress}
-use Rattle.sheet.specs.Lines.{newline, whole, joined, last_line, answers, states_after}
 use Rattle.requests.specs.ByLine.{need_of}
 use Rattle.requests.proofs.Buffer.{needs_most}
-use Rattle.sheet.specs.Many.{reply_most, after_line, reply_line, fitting_room, fitting, replies, progress_of, answers_over}
-use Rattle.sheet.proofs.LinesAgain.{whole_line, joined_append, whole_most, whole_off, used_most}
+use Rattle.sheet.specs.declared.many.Progress.{Progress}
+use Rattle.sheet.specs.Lines.{newline, whole, joined, last_line, answers, states_after}
+use Rattle.sheet.specs.Many.{reply_most, after_line, reply_line, fitting, replies, progress_of, answers_over}
+use Rattle.sheet.proofs.LinesAgain.{whole_line, joined_append, joined_most, joined_rest, whole_off}
 use Rattle.sheet.proofs.LinesCut.{states_append}
 use Rattle.sheet.proofs.LinesFit.{fit_more}
-use Rattle.sheet.proofs.Replies.{last_none, last_one, written_most, fitting_prefix}
-
-take_more : (ls : List (List ℕ)) (k n : ℕ) → take (k + n) ls ≡ take k ls ++ take n (drop k ls)
-take_more ls zero n = ap (λ (m : ℕ). take m ls) (zero-add n)
-take_more [] (suc k) n = ap (λ (m : ℕ). take m []) (suc-add k n) ∙ sym (take_none n)
-  where
-    take_none : (m : ℕ) → take {A = List ℕ} m [] ≡ []
-    take_none zero = refl
-    take_none (suc m) = refl
-take_more (l ∷ ls) (suc k) n = ap (λ (m : ℕ). take m (l ∷ ls)) (suc-add k n) ∙ ap (λ (t : List (List ℕ)). l ∷ t) (take_more ls k n)
-
--- the lines that fit hang on the buffer's length alone
-fitting_same : (s : Supervisor) (ls : List (List ℕ)) (a b : List ℕ) → length a ≡ length b → fitting s ls a ≡ fitting s ls b
-unfolding fitting
-fitting_same s ls a b e = ap (fitting_room s ls) e
+use Rattle.sheet.proofs.Replies.{last_none, last_one, fitting_prefix}
 
 -- with room for the answer to a line of any kind, a line fits where one is
-fitting_some : (s : Supervisor) (ls : List (List ℕ)) (out : List ℕ) → reply_most ≤ length out → length (fitting s ls out) ≤ 0 → length ls ≤ 0
+fitting_some : (s : Supervisor) (ls : List (List ℕ)) (out : List ℕ) → reply_most ≤ length out → fitting s ls out ≡ [] → ls ≡ []
 unfolding fitting
-fitting_some s [] out h none = omega arith
+fitting_some s [] out h none = refl
 fitting_some s (l ∷ ls) out h none =
-    absurd (omega (arith, needs_most l, ap length (fit_more after_line reply_line need_of s l ls (length out) (omega (arith, needs_most l)))))
+    absurd (omega (arith, needs_most l, ap length none, ap length (fit_more after_line reply_line need_of s l ls (length out) (omega (arith, needs_most l)))))
 
 module _ (s₀ : Supervisor) (input : List ℕ) where
-  -- k lines are answered and written, and the next are in the buffer
-  pub record Drains (s : Supervisor) (used k : ℕ) (out : List ℕ) (p : Progress) : Type 0 where
-    pub state : s ≡ states_after after_line s₀ (take k (whole input))
-    pub read : used ≡ length (joined (take k (whole input)))
-    pub most : k ≤ length (whole input)
-    pub room : reply_most ≤ length out
-    pub next : p ≡ progress_of s (fitting s (drop k (whole input)) out)
+  -- so many bytes are read: from this state on, the lines behind them leave the state that all leave
+  pub record Drains (s : Supervisor) (used : ℕ) : Type 0 where
+    pub state : states_after after_line s₀ (whole input) ≡ states_after after_line s (whole (drop used input))
+    pub read : length (joined (whole input)) ≡ used + length (joined (whole (drop used input)))
 
-  pub drains_first : (d out : List ℕ) (p : Progress) → reply_most ≤ length d → length out ≡ length d → p ≡ progress_of s₀ (fitting s₀ (whole input) d)
-      → Drains s₀ 0 0 out p
-  unfolding states_after joined
-  drains_first d out p h e is =
-      record {
-        state = refl;
-        read = refl;
-        most = omega arith;
-        room = omega arith;
-        next = is ∙ ap (progress_of s₀) (fitting_same s₀ (whole input) d out (sym e));
-      }
+  module _ (s : Supervisor) (used : ℕ) (g : Drains s used) where
+    pub used_fits : used ≤ length input
+    used_fits = omega (arith, g.read, simp length-append at (ap length (joined_rest input)))
 
-  module _ (s : Supervisor) (used k : ℕ) (out : List ℕ) (p : Progress) (g : Drains s used k out p) where
-    -- the lines in the buffer
-    now : List (List ℕ)
-    now = fitting s (drop k (whole input)) out
+    module _ (out : List ℕ) (p : Progress) (is : p ≡ progress_of s (fitting s (whole (drop used input)) out)) where
+      left : List (List ℕ)
+      left = whole (drop used input)
 
-    some : take (k + length now) (whole input) ≡ take k (whole input) ++ now
-    unfolding now
-    some = take_more (whole input) k (length now) ∙ ap (λ (t : List (List ℕ)). take k (whole input) ++ t) (fitting_prefix s (drop k (whole input)) out)
+      now : List (List ℕ)
+      now = fitting s left out
 
-    lines_are : p.lines ≡ length now
-    unfolding now progress_of
-    lines_are = ap (λ (q : Progress). q.lines) g.next
+      used_is : p.used ≡ length (joined now)
+      unfolding now left progress_of
+      used_is = ap (λ (q : Progress). q.used) is
 
-    pub written_fits : p.written ≤ length out
-    unfolding progress_of
-    written_fits =
-        let e : p.written ≡ length (replies s (fitting s (drop k (whole input)) out)) = ap (λ (q : Progress). q.written) g.next in
-        omega (arith, written_most s (drop k (whole input)) out)
+      lines_are : p.lines ≡ length now
+      unfolding now left progress_of
+      lines_are = ap (λ (q : Progress). q.lines) is
 
-    pub lines_most : k + p.lines ≤ length (whole input)
-    lines_most =
-        let e : length (take (k + length now) (whole input)) ≡ length (take k (whole input)) + length now = ap length some ∙ length-append (take k (whole input)) now in
-        omega (arith, lines_are, g.most, length-take (k + length now) (whole input), length-take k (whole input))
+      -- the lines behind
+      behind : drop (length now) left ≡ whole (drop (used + p.used) input)
+      unfolding now left
+      behind =
+          sym (whole_off (length now) (drop used input))
+          ∙ ap (λ (ls : List (List ℕ)). whole (drop (length (joined ls)) (drop used input))) (fitting_prefix s left out)
+          ∙ ap (λ (n : ℕ). whole (drop n (drop used input))) (sym used_is)
+          ∙ ap whole (drop-drop p.used used input)
 
-    read_is : used + p.used ≡ length (joined (take (k + p.lines) (whole input)))
-    unfolding now progress_of
-    read_is =
-        let e : p.used ≡ length (joined now) = ap (λ (q : Progress). q.used) g.next in
-        let n : length (joined (take k (whole input) ++ now)) ≡ length (joined (take k (whole input))) + length (joined now) =
-        ap length (joined_append (take k (whole input)) now) ∙ length-append (joined (take k (whole input))) (joined now) in
-        omega (arith, g.read)
-        ∙ sym n
-        ∙ ap (λ (ls : List (List ℕ)). length (joined ls)) (sym some)
-        ∙ ap (λ (n : ℕ). length (joined (take (k + n) (whole input)))) (sym lines_are)
+      parts : left ≡ now ++ whole (drop (used + p.used) input)
+      unfolding now left
+      parts =
+          sym (take-append-drop (length now) left)
+          ∙ ap (λ (ls : List (List ℕ)). ls ++ drop (length now) left) (fitting_prefix s left out)
+          ∙ ap (λ (ls : List (List ℕ)). now ++ ls) behind
 
-    pub used_fits : used + p.used ≤ length input
-    used_fits = omega (arith, read_is, used_most (k + p.lines) input)
+      pub drains_next : Drains p.supervisor (used + p.used)
+      unfolding now left progress_of
+      drains_next =
+          record {
+            state =
+                g.state
+                ∙ ap (states_after after_line s) parts
+                ∙ states_append after_line s now (whole (drop (used + p.used) input))
+                ∙ ap (λ (t : Supervisor). states_after after_line t (whole (drop (used + p.used) input))) (sym (ap (λ (q : Progress). q.supervisor) is));
+            read =
+                let n : length (joined left) ≡ length (joined now) + length (joined (whole (drop (used + p.used) input))) =
+                ap (λ (ls : List (List ℕ)). length (joined ls)) parts
+                ∙ ap length (joined_append now (whole (drop (used + p.used) input)))
+                ∙ length-append (joined now) (joined (whole (drop (used + p.used) input))) in
+                omega (arith, g.read, used_is);
+          }
 
-    pub lines_fit : k + p.lines ≤ length input
-    lines_fit = omega (arith, lines_most, whole_most input)
+      -- a line is answered: bytes are read
+      pub some_read : (p.lines ≡ 0 → ⊥) → 0 < p.used
+      some_read q = omega (arith, lines_are, used_is, joined_most now, q)
 
-    pub drains_next : (d : List ℕ) (q : Progress) → length d ≡ length out → q ≡ progress_of p.supervisor (fitting p.supervisor (whole (drop (used + p.used) input)) out)
-        → Drains p.supervisor (used + p.used) (k + p.lines) d q
-    unfolding now progress_of
-    drains_next d q e is =
-        record {
-          state =
-              ap (λ (r : Progress). r.supervisor) g.next
-              ∙ ap (λ (t : Supervisor). states_after after_line t now) g.state
-              ∙ sym (states_append after_line s₀ (take k (whole input)) now)
-              ∙ ap (states_after after_line s₀) (sym some)
-              ∙ ap (λ (n : ℕ). states_after after_line s₀ (take (k + n) (whole input))) (sym lines_are);
-          read = read_is;
-          most = lines_most;
-          room = omega (arith, g.room);
-          next =
-              is
-              ∙ ap (progress_of p.supervisor) (fitting_same p.supervisor (whole (drop (used + p.used) input)) out d (sym e))
-              ∙ ap (λ (n : ℕ). progress_of p.supervisor (fitting p.supervisor (whole (drop n input)) d)) read_is
-              ∙ ap (λ (ls : List (List ℕ)). progress_of p.supervisor (fitting p.supervisor ls d)) (whole_off (k + p.lines) input);
-        }
-
-    -- no line is in the buffer: all are answered
-    all_done : p.lines ≤ 0 → take k (whole input) ≡ whole input
-    unfolding now
-    all_done h =
-        take_all k (whole input)
-        (omega (arith, fitting_some s (drop k (whole input)) out g.room (omega (arith, lines_are)), length-drop k (whole input)))
-
-    pub drains_last : p.lines ≤ 0 → (s ≡ states_after after_line s₀ (whole input)) × (used ≡ length (joined (whole input)))
-    drains_last h =
-        (g.state ∙ ap (states_after after_line s₀) (all_done h), g.read ∙ ap (λ (ls : List (List ℕ)). length (joined ls)) (all_done h))
+      -- none is: all are answered
+      pub drains_last : reply_most ≤ length out → p.lines ≡ 0 → (s ≡ states_after after_line s₀ (whole input)) × (used ≡ length (joined (whole input)))
+      unfolding now left states_after joined
+      drains_last room none =
+          let done : left ≡ [] = fitting_some s left out room (nil_from_length now (sym lines_are ∙ none)) in (
+            sym (g.state ∙ ap (states_after after_line s) done),
+            sym (g.read ∙ ap (λ (ls : List (List ℕ)). used + length (joined ls)) done ∙ omega arith),
+          )
 
 -- ---- a last line, with a newline put behind it
 

@@ -4,7 +4,7 @@ use mathlib.Core.Path.{◌≡◌, sym, ap, ◌∙◌}
 use mathlib.Core.List.{List, [], ◌∷◌, ◌++◌}
 use lib.Dec.{lit≤}
 use lib.ListN.{length, take, drop, take-append-drop}
-use lib.Seq.{length-take-le, take_at, take-nil, take-take}
+use lib.Seq.{take_at, take-nil, take-take}
 use Rattle.falcon_core.specs.declared.supervisor.Supervisor.{Supervisor}
 use Rattle.falcon_core.specs.Supervisor.{unopened}
 use Rattle.sheet.specs.Lines.{kept_width, kept_of, whole, joined, rest, last_line, lines_of, together, states_after}
@@ -15,10 +15,6 @@ use Rattle.sheet.proofs.LinesCut.{kept_part, together_snoc}
 use Rattle.sheet.proofs.Replies.{state_part, last_kept}
 use Rattle.sheet.proofs.Sheets.{replies_append}
 use Rattle.daysheet.specs.Reader.{ReadsPart, ReadsAll}
-
--- what is lent from a place on leaves the bytes before it
-pub front_stays : (d last : List ℕ) (at : ℕ) → at ≤ length d → take at (take at d ++ last) ≡ take at d
-front_stays d last at h = take_at (take at d) last at (length-take-le at d h)
 
 -- a turn: bytes read behind those at hand, the state after the whole lines, and what `keep` leaves
 module _ (s : Supervisor) (before buf : List ℕ) (have end : ℕ) (more : have ≤ end) (same : take have buf ≡ take have before) where

@@ -1,202 +1,154 @@
 // Reads a sheet from standard input and answers each of its lines on standard output. A read or a write that fails is said on standard error.
 #![tactic(auto)]
 
-ghost use Rattle.std.specs.Prelude.{◌≤◌, ◌<◌, ◌≡◌, [], length, take};
+ghost use Rattle.std.specs.Prelude.{◌≤◌, ◌<◌, ◌≡◌, [], length, take, IfOk};
 ghost use Rattle.sheet.specs.Lines.{kept_width, whole, joined, last_line, states_after};
-ghost use Rattle.sheet.specs.Many.{reply_most, after_line, answers_over};
-ghost use Rattle.daysheet.specs.Reader.{ReadsPart, ReadsAll};
+ghost use Rattle.sheet.specs.Many.{after_line, answers_over};
+ghost use Rattle.daysheet.specs.Reader.{ReadsAll};
 
 use falcon_core::supervisor::Supervisor;
 use sheet::lines::keep;
 use sheet::many::answer_lines;
+use std::error::Error;
+use std::fmt;
 use std::io::{Read, Write};
 use std::rt::{Stdin, Stdout};
 
-// 65,536 zeros.
-fn large_buffer() -> [u8; 65536]
-    ensures { 65536 ≡ length result }
-{
-    [0; 65536]
+// The bytes of a read with what is at hand, and those of the answers that are written at once.
+const ROOM: usize = 65536;
+
+// What failed.
+#[derive(Clone, Copy, Debug, PartialEq, Eq, Hash)]
+enum Failure {
+    Read,
+    Write,
 }
 
-// How many bytes are at hand after a read, and whether it did not fail.
-#[derive(Clone, Copy)]
-struct Filled {
-    end: usize,
-    is_read: bool,
+impl fmt::Display for Failure {
+    fn fmt<W: fmt::Write>(&self, f: &mut fmt::Formatter<W>) -> fmt::Result {
+        f.write_str(match self {
+            Failure::Read => "daysheet: standard input cannot be read",
+            Failure::Write => "daysheet: standard output cannot be written",
+        })
+    }
 }
 
-// The state after the lines of a read, the bytes that they took, and whether all answers so far were written.
+impl Error for Failure {}
+
+// The state after the lines of a read, and the bytes that they took.
 #[derive(Clone, Copy)]
 struct Drained {
     supervisor: Supervisor,
     used: usize,
-    is_written: bool,
 }
 
-// The state and the bytes at hand after a read, whether it and all writes so far did not fail, and whether more may be read.
+// The state after all whole lines, and how many bytes of the line begun are at the front of the buffer, which is fixed memory and no Vec.
 #[derive(Clone, Copy)]
-struct Kept {
+struct Begun {
     supervisor: Supervisor,
     have: usize,
-    is_read: bool,
-    is_written: bool,
-    goes_on: bool,
+    ghost short: { have ≤ kept_width },
 }
 
-// One read behind the bytes at hand, which stay. There is room, so that a read of no bytes is the input's end.
-fn fill(input: &mut Stdin, buf: &mut [u8], have: usize) -> Filled
-    requires { have < length buf.old }
-    ensures have_le_end { (have ≤ result.end) × (result.end ≤ length buf.new) }
+// One read behind the bytes at hand, which stay. There is room, so that a read of no bytes is the input's end. Answers where the bytes at hand end.
+fn fill(input: &mut Stdin, buf: &mut [u8; ROOM], have: usize) -> Result<usize, Failure>
+    requires { have < ROOM }
+    ensures end { IfOk result (λ end. (have ≤ end) × (end ≤ ROOM)) }
     ensures buf_unchanged { take have buf.new ≡ take have buf.old }
 {
-    let got = input.read(&mut buf[have..]);
-    match got {
-        Ok(count) => Filled {
-            end: have + count,
-            is_read: true,
-        },
-        Err(_) => Filled {
-            end: have,
-            is_read: false,
-        },
-    }
+    let count = input.read(&mut buf[have..]).map_err(|_| Failure::Read)?;
+    Ok(have + count)
 }
 
-// Writes the first n bytes, unless an earlier write failed.
-fn write(output: &mut Stdout, is_written: bool, out: &[u8], n: usize) -> bool
-    requires { n ≤ length out.now }
+// Writes the first n bytes.
+fn write(output: &mut Stdout, out: &[u8; ROOM], n: usize) -> Result<(), Failure>
+    requires { n ≤ ROOM }
 {
-    if is_written {
-        return output.write_all(&out[..n]).is_ok();
-    }
-    false
+    output.write_all(&out[..n]).map_err(|_| Failure::Write)
 }
 
 // Answers every line that a newline ends, a buffer of answers at a time.
-fn drain(output: &mut Stdout, s: Supervisor, input: &[u8], out: &mut [u8]) -> Drained
-    requires { reply_most ≤ length out.old }
-    ensures supervisor_value { result.supervisor ≡ states_after after_line s (whole input.now) }
-    ensures used_value { result.used ≡ length (joined (whole input.now)) }
+fn drain(
+    output: &mut Stdout,
+    s: Supervisor,
+    input: &[u8],
+    out: &mut [u8; ROOM],
+) -> Result<Drained, Failure>
+    ensures supervisor { IfOk result (λ d. d.supervisor ≡ states_after after_line s (whole input.now)) }
+    ensures used { IfOk result (λ d. d.used ≡ length (joined (whole input.now))) }
 {
     let mut supervisor = s;
     let mut used = 0;
-    let mut lines = 0;
-    let mut is_written = true;
-    let mut progress = answer_lines(s, input, out);
-    while 0 < progress.lines {
-        let n = progress.written;
-        is_written = write(output, is_written, out, n);
+    loop {
+        let progress = answer_lines(supervisor, &input[used..], out);
+        if progress.lines == 0 {
+            return Ok(Drained { supervisor, used });
+        }
+        write(output, out, progress.written)?;
         supervisor = progress.supervisor;
         used += progress.used;
-        lines += progress.lines;
-        progress = answer_lines(supervisor, &input[used..], out);
-    }
-    Drained {
-        supervisor,
-        used,
-        is_written,
     }
 }
 
-// One read, the answers of the lines that it ends, and what is kept of the line begun.
-fn turn(
+// Reads until the input ends.
+fn read_all(
     input: &mut Stdin,
     output: &mut Stdout,
-    s: Supervisor,
-    buf: &mut [u8],
-    have: usize,
-    out: &mut [u8],
-) -> Kept
-    requires { (have < length buf.old) × (reply_most ≤ length out.old) }
-    ensures have_le_kept_width { result.have ≤ kept_width }
-    ensures reads_part { ReadsPart s (take have buf.old) result.supervisor (take result.have buf.new) }
+    buf: &mut [u8; ROOM],
+    out: &mut [u8; ROOM],
+) -> Result<Begun, Failure>
+    ensures { IfOk result (λ b. ReadsAll b.supervisor (take b.have buf.new)) }
 {
-    let filled = fill(input, buf, have);
-    let end = filled.end;
-    let drained = drain(output, s, &buf[..end], out);
-    let supervisor = drained.supervisor;
-    let used = drained.used;
-    let kept = keep(buf, used, end);
-    Kept {
-        supervisor,
-        have: kept,
-        is_read: filled.is_read,
-        is_written: drained.is_written,
-        goes_on: drained.is_written & (have < end),
-    }
-}
-
-// Reads until the input ends or a read or a write fails. A proved loop has to end, so it counts its turns down from a number that no run uses up.
-fn read_all(input: &mut Stdin, output: &mut Stdout, buf: &mut [u8], out: &mut [u8]) -> Kept
-    requires { (kept_width < length buf.old) × (reply_most ≤ length out.old) }
-    ensures have_le_kept_width { result.have ≤ kept_width }
-    ensures reads_all { ReadsAll result.supervisor (take result.have buf.new) }
-{
-    let mut kept = Kept {
+    let mut begun = Begun {
         supervisor: Supervisor::new(),
         have: 0,
-        is_read: true,
-        is_written: true,
-        goes_on: true,
     };
-    let mut turns = u64::MAX;
-    while turns > 0 && kept.goes_on {
-        let supervisor = kept.supervisor;
-        kept = turn(input, output, supervisor, buf, kept.have, out);
-        turns -= 1;
+    // A proved loop has to end, so it has a number of turns that no run uses up.
+    for _ in 0..u64::MAX {
+        let end = fill(input, buf, begun.have)?;
+        if end == begun.have {
+            break;
+        }
+        let drained = drain(output, begun.supervisor, &buf[..end], out)?;
+        begun = Begun {
+            supervisor: drained.supervisor,
+            have: keep(buf, drained.used, end),
+        };
     }
-    kept
+    Ok(begun)
 }
 
-// Answers a last line without newline, where there is one. Answers whether all answers were written. A newline is put behind the line and not
-// `answer_last` called: what a line goes through then has one caller and is inlined into the loop over the lines (docs/SPEED.md).
+// Answers a last line without newline, where there is one. A newline is put behind the line and not `answer_last` called: what a line goes through then
+// has one caller and is inlined into the loop over the lines (docs/SPEED.md).
 fn finish(
     output: &mut Stdout,
-    s: Supervisor,
-    is_written: bool,
-    buf: &mut [u8],
-    have: usize,
-    out: &mut [u8],
-) -> bool
-    requires have_in_bounds { (have < length buf.old) × (reply_most ≤ length out.old) }
-    requires buf_value { whole (take have buf.old) ≡ [] }
-    ensures { out.new ≡ answers_over s (last_line (take have buf.old)) out.old }
+    begun: Begun,
+    buf: &mut [u8; ROOM],
+    out: &mut [u8; ROOM],
+) -> Result<(), Failure>
+    requires { whole (take begun.have buf.old) ≡ [] }
+    ensures { out.new ≡ answers_over begun.supervisor (last_line (take begun.have buf.old)) out.old }
 {
+    let have = begun.have;
     if have == 0 {
-        return is_written;
+        return Ok(());
     }
     buf[have] = b'\n';
-    let end = have + 1;
-    let last = answer_lines(s, &buf[..end], out);
-    let n = last.written;
-    write(output, is_written, out, n)
-}
-
-// Says something on standard error, as far as it can be written.
-fn say(rt: &HostRuntime, words: &[u8]) {
-    rt.stderr().write_all(words).is_ok();
+    let last = answer_lines(begun.supervisor, &buf[..have + 1], out);
+    write(output, out, last.written)
 }
 
 // A line begun is answered at the input's end alone: where a read fails nobody knows how it goes on.
-fn answer_all(rt: &HostRuntime, buf: &mut [u8], out: &mut [u8])
-    requires { (kept_width < length buf.old) × (reply_most ≤ length out.old) }
-{
+fn answer_all(rt: &HostRuntime) -> Result<(), Failure> {
+    let mut buf = [0; ROOM];
+    let mut out = [0; ROOM];
     let mut output = rt.stdout();
-    let kept = read_all(&mut rt.stdin(), &mut output, buf, out);
-    if !kept.is_read {
-        say(rt, b"daysheet: standard input cannot be read\n");
-        return;
-    }
-    let supervisor = kept.supervisor;
-    let have = kept.have;
-    if !finish(&mut output, supervisor, kept.is_written, buf, have, out) {
-        say(rt, b"daysheet: standard output cannot be written\n");
-    }
+    let begun = read_all(&mut rt.stdin(), &mut output, &mut buf, &mut out)?;
+    finish(&mut output, begun, &mut buf, &mut out)
 }
 
 fn main(rt: HostRuntime) {
-    let mut buf = large_buffer();
-    let mut out = large_buffer();
-    answer_all(&rt, &mut buf, &mut out);
+    if let Err(failure) = answer_all(&rt) {
+        writeln!(rt.stderr(), "{failure}").is_ok();
+    }
 }

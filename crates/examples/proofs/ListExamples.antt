@@ -19,7 +19,7 @@ use Rattle.relay_fsm.specs.Event.{event_at}
 use Rattle.relay_fsm.specs.Fsm.{row_of, on_of}
 use Rattle.relay_preflight.specs.Check.{all_checks}
 use Rattle.relay_preflight.specs.Table.{bit_of, with_bit_of, set_of, legacy_passed_of, fails_of, failing_mask_of, outstanding_of}
-use Rattle.relay_preflight.specs.Verdict.{first_in, first_blocker_of}
+use Rattle.relay_preflight.specs.Verdict.{first_blocker_of}
 use Rattle.relay_batt.specs.Battery.{opened_of, heard_of, update_of, lost_of, run_of}
 use Rattle.relay_batt.specs.Config.{default_of, for_pack_of, capacity_of, cells_of, per_cell_of}
 use Rattle.relay_batt.specs.Curve.{sanitize_of, knots, walk, table_of, ocv_soc_cell_of}
@@ -30,6 +30,7 @@ use Rattle.falcon_failsafe.specs.Failsafe.{cleared_of, breach_of, breach_gives, 
 use Rattle.falcon_guidance.specs.Geometry.{length_of, distance_of, height_of}
 use Rattle.falcon_hold.specs.Hold.{horiz_speed_of, brake_point_of, entered_of, rest_of as holdRestOf, braked_of, left_of, kept_of, held_of}
 use Rattle.falcon_flight.specs.Milestone.{high_of, near_home_of, near_ground_of, distance3_of, arrived_of, milestone_gives, leg_of, advanced_of, milestone_of}
+use Rattle.falcon_guidance.specs.Lent.{filled_of}
 use Rattle.falcon_guidance.specs.Mission.{waypoint_admissible_of, point_at_of, tried_of, all_admissible_of, stored_of, loaded_of, loaded_points_of, waypoint_at_of, leg_waypoint_of, current_waypoint_of, legs_of}
 use Rattle.falcon_failsafe.specs.Preflight.{outside_geofence_of, geofence_sane_of, nav_rows_of, integrity_rows_of, readiness_rows_of, update_preflight_of, esc_telemetry_of}
 use Rattle.falcon_flight.specs.Setpoint.{landing_of, setpoint_of, commanded_of}
@@ -40,7 +41,7 @@ use Rattle.falcon_guidance.specs.Zones.{goal_of, bearing_of, along_of, perp_of, 
 use Rattle.requests.specs.ByLine.{need_fields_of, need_of, extra_of, reply_numbers, asked_with, line_step, reply_of, buffer_after}
 use Rattle.requests.specs.Parse.{limit_fields_of, reading_line, asked_line}
 use Rattle.columns.specs.Field.{in_range, digits, start as fieldStart, spaced, field_read, kind_of, column, columns, field_of, put}
-use Rattle.requests.specs.Kinds.{opening_from_of, opening_line_of, reading_from_of, battery_ok_of, tick_from_of, tick_ok_of, tick_line_of, report_line_of, command_line_of, points_line_of, zones_line_of, alone_line_of, request_of}
+use Rattle.requests.specs.Kinds.{opening_from_of, opening_line_of, reading_from_of, battery_ok_of, tick_from_of, tick_ok_of, tick_line_of, report_line_of, command_line_of, points_line_of, zones_line_of, alone_line_of, kind_at, request_of}
 use Rattle.falcon_totals.specs.Totals.{no_totals, counted_of, totals_numbers}
 use Rattle.falcon_totals.specs.Counts.{count_of, counts_of}
 use Rattle.falcon_record.specs.Columns.{config_columns, check_columns, hold_columns, count_columns, use_columns, scalar_columns, placed, place_in, point_columns, points_columns, zone_columns, zones_columns, later_columns, columns_in}
@@ -243,5 +244,5 @@ seen_in_lists :
     × (counts_of (place_from start breached).counted ≡ 0 ∷ 0 ∷ 0 ∷ 0 ∷ 0 ∷ 1 ∷ 0 ∷ 0 ∷ 3 ∷ [])
     × (map reply_numbers (answers_from (place_from start breached) saving) ≡ saved)
     × (saved_over (place_from start breached).supervisor (replicate 161 7) ≡ columned ++ replicate 26 7)
-unfolding kind7 breached asked totalled no_totals counted_of totals_numbers count_of counts_of totals_after alone_line_of saving columned saved save_step saved_over columns_of columns_in scalar_columns config_columns check_columns battery_numbers_of estimator_numbers_of state_numbers_of silence_numbers_of hold_columns count_columns use_columns points_columns zones_columns later_columns point_columns zone_columns placed place_in opening tick flat calmly tripped tilted quiet flying line worked answered answers_from modes latches tumble final max_of clamp_of event_at row_of on_of all_checks root_of special_operands_of unlimited_precision_of to_digits rounding exponent_range_of nearest_root_of whole_root_of root_by bit_of with_bit_of set_of legacy_passed_of fails_of failing_mask_of outstanding_of first_in first_blocker_of opened_of heard_of update_of lost_of run_of default_of for_pack_of capacity_of cells_of per_cell_of sanitize_of knots walk table_of ocv_soc_cell_of none_of shown_of new_of reset_of consumed_of big_step_of blend_of r_est_of rest_of soc_coulomb_of soc_of with_amps_of volts_only_of update_amps_of update_volts_of trip_of shape_refusal sequence_refusal_of state_refusal refusal_of commanded_by start_of start_points planned_of flight_after waypoints_after after_of output_of answer_of refused_of accepted_of step_of numbers_of cleared_of breach_of breach_gives breached_of tilted_of runaway_enough runaway_counted runaway_gives runaway_of gusty_of wind_enough wind_counted wind_gives wind_of reported_of length_of distance_of horiz_speed_of brake_point_of entered_of holdRestOf braked_of left_of kept_of held_of height_of high_of near_home_of near_ground_of distance3_of arrived_of milestone_gives leg_of advanced_of milestone_of waypoint_admissible_of point_at_of tried_of all_admissible_of stored_of loaded_of loaded_points_of waypoint_at_of leg_waypoint_of current_waypoint_of legs_of outside_geofence_of geofence_sane_of nav_rows_of integrity_rows_of readiness_rows_of update_preflight_of esc_telemetry_of landing_of setpoint_of commanded_of stateOpenedOf unopened checked_of powered_of telemetry_of sensed_of after_breach after_runaway after_wind after_milestone holding_of answered_of ended_of tick_of given_of goal_of bearing_of along_of perp_of obstructs_of threatens_of tangent_of urgency_of ring_of deflected_of around_of around_all_of avoid_of zone_at_of zonesKeptOf stored_zones_of loaded_zones_of asked_line asked_with line_step reply_of buffer_after in_range digits fieldStart spaced field_read column columns field_of put opening_from_of opening_line_of reading_from_of battery_ok_of tick_from_of tick_ok_of tick_line_of report_line_of command_line_of points_line_of zones_line_of request_of onto before fields length_ok read_within line_of call_step accepted_request place_after next_place_of place_from start calm_from ticks_from add sub mul div neg lt eq le ne of_bits of_int round units is_nan size to_bits kind_of need_fields_of need_of extra_of reply_numbers limit_fields_of reading_line ones
+unfolding kind7 breached asked totalled no_totals counted_of totals_numbers count_of counts_of totals_after alone_line_of saving columned saved save_step saved_over columns_of columns_in scalar_columns config_columns check_columns battery_numbers_of estimator_numbers_of state_numbers_of silence_numbers_of hold_columns count_columns use_columns points_columns zones_columns later_columns point_columns zone_columns placed place_in opening tick flat calmly tripped tilted quiet flying line worked answered answers_from modes latches tumble final max_of clamp_of event_at row_of on_of all_checks root_of special_operands_of unlimited_precision_of to_digits rounding exponent_range_of nearest_root_of whole_root_of root_by bit_of with_bit_of set_of legacy_passed_of fails_of failing_mask_of outstanding_of first_blocker_of opened_of heard_of update_of lost_of run_of default_of for_pack_of capacity_of cells_of per_cell_of sanitize_of knots walk table_of ocv_soc_cell_of none_of shown_of new_of reset_of consumed_of big_step_of blend_of r_est_of rest_of soc_coulomb_of soc_of with_amps_of volts_only_of update_amps_of update_volts_of trip_of shape_refusal sequence_refusal_of state_refusal refusal_of commanded_by start_of start_points planned_of flight_after waypoints_after after_of output_of answer_of refused_of accepted_of step_of numbers_of cleared_of breach_of breach_gives breached_of tilted_of runaway_enough runaway_counted runaway_gives runaway_of gusty_of wind_enough wind_counted wind_gives wind_of reported_of length_of distance_of horiz_speed_of brake_point_of entered_of holdRestOf braked_of left_of kept_of held_of height_of high_of near_home_of near_ground_of distance3_of arrived_of milestone_gives leg_of advanced_of milestone_of waypoint_admissible_of point_at_of tried_of all_admissible_of filled_of stored_of loaded_of loaded_points_of waypoint_at_of leg_waypoint_of current_waypoint_of legs_of outside_geofence_of geofence_sane_of nav_rows_of integrity_rows_of readiness_rows_of update_preflight_of esc_telemetry_of landing_of setpoint_of commanded_of stateOpenedOf unopened checked_of powered_of telemetry_of sensed_of after_breach after_runaway after_wind after_milestone holding_of answered_of ended_of tick_of given_of goal_of bearing_of along_of perp_of obstructs_of threatens_of tangent_of urgency_of ring_of deflected_of around_of around_all_of avoid_of zone_at_of zonesKeptOf stored_zones_of loaded_zones_of asked_line asked_with line_step reply_of buffer_after in_range digits fieldStart spaced field_read column columns field_of put opening_from_of opening_line_of reading_from_of battery_ok_of tick_from_of tick_ok_of tick_line_of report_line_of command_line_of points_line_of zones_line_of kind_at request_of onto before fields length_ok read_within line_of call_step accepted_request place_after next_place_of place_from start calm_from ticks_from add sub mul div neg lt eq le ne of_bits of_int round units is_nan size to_bits kind_of need_fields_of need_of extra_of reply_numbers limit_fields_of reading_line ones
 seen_in_lists = (refl, refl, refl, refl, refl, refl, refl, refl, refl, refl, refl)

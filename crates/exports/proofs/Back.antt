@@ -1,66 +1,17 @@
--- What is written as numbers is read back as it was: every mode, action and check, and every battery.
+-- What is written as numbers is read back as it was: every battery. For modes, actions and checks the crates that have them say it.
 use mathlib.Core.Path.{◌≡◌, refl, ap, ◌∙◌}
 use mathlib.Core.List.{List, ◌++◌}
 use Prim.Native.Nat.{ℕ, ◌+◌, ◌≤◌}
 use borrow.Author.Tests.{le-ltb}
 use lib.ListN.{length, drop}
 use lib.Seq.{sets-eq}
-use Rattle.relay_fsm.specs.declared.Mode.{Mode}
-use Rattle.relay_fsm.specs.Mode.{mode_number, mode_at_of}
-use Rattle.relay_fsm.proofs.Finite.{mode_at_lem}
-use Rattle.relay_fsafe.specs.declared.FailsafeAction as fsafe
-use Rattle.relay_fsafe.specs.declared.FailsafeAction.TheVariants as action
-use Rattle.relay_fsafe.specs.Fsafe.{severity_of}
-use Rattle.relay_preflight.specs.declared.CheckId.{CheckId}
-use Rattle.relay_preflight.specs.declared.CheckId.TheVariants.{SensorsHealthy, EstimatorConverged, CalibrationPresent, GeofenceLoaded, BatteryOk, FailsafeConfigured, EstimatorInnovation}
-use Rattle.relay_preflight.specs.declared.CheckId.TheVariants.{GnssAgreement, ParamsFromNvm, GeofenceSane, ThresholdsOrdered, SensorsFresh, EscTelemetry, BatteryTakeoffMargin}
-use Rattle.relay_preflight.specs.declared.CheckId.TheVariants.{RangefinderPlausible, CalibrationFresh, RcLink, GcsLink, NoFailsafeLatched, MotorsHealthy, InsideGeofence}
-use Rattle.relay_preflight.specs.Check.{check_number}
 use Rattle.relay_math.proofs.Laws.{read_back}
 use Rattle.relay_batt.specs.Fits.{FitConfig, FitBattery}
 use Rattle.relay_batt.specs.declared.config.BattConfig.{BattConfig}
 use Rattle.relay_batt.specs.declared.battery.Battery.{Battery}
 use Rattle.relay_batt.specs.Numbers.{estimator_numbers_of, state_numbers_of, silence_numbers_of, battery_numbers_of, estimator_by, state_by, battery_by}
 use Rattle.relay_batt.proofs.Back.{battery_back}
-use Rattle.exports.specs.Policy.{action_at_of}
-use Rattle.exports.specs.Checks.{check_at_of}
 use Rattle.exports.specs.Batt.{size, config_from_of, behind_pack, battery_from_of, config_numbers_of, packed_numbers, stored_of}
-
-pub mode_back : (m : Mode) → mode_at_of (mode_number m) ≡ m
-unfolding mode_at_of
-mode_back m = mode_at_lem m
-
-pub action_back : (a : fsafe.FailsafeAction) → action_at_of (severity_of a) ≡ a
-unfolding action_at_of
-action_back action.None = refl
-action_back action.Hold = refl
-action_back action.Rtl = refl
-action_back action.Land = refl
-action_back action.Terminate = refl
-
-pub check_back : (id : CheckId) → check_at_of (check_number id) ≡ id
-unfolding check_at_of
-check_back SensorsHealthy = refl
-check_back EstimatorConverged = refl
-check_back CalibrationPresent = refl
-check_back GeofenceLoaded = refl
-check_back BatteryOk = refl
-check_back FailsafeConfigured = refl
-check_back EstimatorInnovation = refl
-check_back GnssAgreement = refl
-check_back ParamsFromNvm = refl
-check_back GeofenceSane = refl
-check_back ThresholdsOrdered = refl
-check_back SensorsFresh = refl
-check_back EscTelemetry = refl
-check_back BatteryTakeoffMargin = refl
-check_back RangefinderPlausible = refl
-check_back CalibrationFresh = refl
-check_back RcLink = refl
-check_back GcsLink = refl
-check_back NoFailsafeLatched = refl
-check_back MotorsHealthy = refl
-check_back InsideGeofence = refl
 
 -- the pack whose numbers stand at the beginning
 config_back : (c : BattConfig) (rest : List ℕ) → FitConfig c → config_from_of (config_numbers_of c ++ rest) ≡ c

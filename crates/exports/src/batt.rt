@@ -1,12 +1,11 @@
 // The battery as 29 numbers: the pack 0..7, the estimator 8..16, what is shown 17..25, the silence and two flags 26..28. A slice may have more; those are neither read nor changed.
 
-ghost use Rattle.std.specs.Prelude.{◌≡◌, ◌≤◌, ◌<◌, length};
-ghost use Rattle.std.proofs.lemmas.List.Edits.{sets};
+ghost use Rattle.std.specs.Prelude.{◌≡◌, ◌<◌};
 ghost use Rattle.relay_batt.specs.Numbers.{estimator_by, state_by};
 ghost use Rattle.exports.specs.Batt.{config_from_of, latch_from_of, behind_pack, battery_from_of, reading_from_of, new_from, opened_for, update_from_of};
-ghost use Rattle.exports.specs.Batt.{size, config_numbers_of, packed_numbers, short_number, stored_of};
+ghost use Rattle.exports.specs.Batt.{size, config_numbers_of, short_number, stored_of};
 
-use crate::numbers::{float, is_one, number, put};
+use crate::numbers::{float, is_one, number};
 use relay_batt::numbers::{estimator_numbers, silence_numbers, state_numbers};
 use relay_batt::{BattConfig, BattState, Battery, BatteryEstimator, Reading, TripLatch};
 use relay_math::{from_bits, to_bits};
@@ -15,6 +14,7 @@ use relay_math::{from_bits, to_bits};
 const SIZE: usize = 29;
 
 // The pack of numbers 0 to 7.
+#[tactic(auto, unfolding(crate::specs::Batt::config_from_of))]
 fn config_from(ns: &[u32]) -> BattConfig
     ensures { result ≡ config_from_of ns.now }
 {
@@ -31,6 +31,7 @@ fn config_from(ns: &[u32]) -> BattConfig
 }
 
 // The latch whose two numbers begin at a place.
+#[tactic(auto, unfolding(crate::specs::Batt::latch_from_of))]
 fn latch_from(ns: &[u32], i: usize) -> TripLatch
     requires { i < size }
     ensures { result ≡ latch_from_of ns.now i }
@@ -42,6 +43,7 @@ fn latch_from(ns: &[u32], i: usize) -> TripLatch
 }
 
 // The estimator of numbers 0 to 16.
+#[tactic(auto, unfolding(relay_batt::specs::Numbers::estimator_by, crate::specs::Batt::latch_from_of))]
 fn estimator_from(ns: &[u32]) -> BatteryEstimator
     ensures { result ≡ estimator_by (config_from_of ns.now) (behind_pack ns.now) }
 {
@@ -58,6 +60,7 @@ fn estimator_from(ns: &[u32]) -> BatteryEstimator
 }
 
 // The state shown of numbers 17 to 25.
+#[tactic(auto, unfolding(relay_batt::specs::Numbers::state_by))]
 fn state_from(ns: &[u32]) -> BattState
     ensures { result ≡ state_by (behind_pack ns.now) }
 {
@@ -75,6 +78,7 @@ fn state_from(ns: &[u32]) -> BattState
 }
 
 // The battery of all 29 numbers.
+#[tactic(auto, unfolding(crate::specs::Batt::battery_from_of, relay_batt::specs::Numbers::battery_by))]
 fn battery_from(ns: &[u32]) -> Battery
     ensures { result ≡ battery_from_of ns.now }
 {
@@ -87,23 +91,23 @@ fn battery_from(ns: &[u32]) -> Battery
     }
 }
 
-// What was read: 0 nothing, 1 volts, any other kind volts and amps.
+// What was read: 0 nothing, 1 volts, any other kind volts and amps. Three numbers and no struct: C hands them over.
+#[tactic(auto, unfolding(crate::specs::Batt::reading_from_of))]
 fn reading_from(kind: u32, volts: u32, amps: u32) -> Reading
     ensures { result ≡ reading_from_of kind volts amps }
 {
-    if kind == 0 {
-        return Reading::Nothing;
-    }
-    if kind == 1 {
-        return Reading::Volts(from_bits(volts));
-    }
-    Reading::VoltsAmps {
-        volts: from_bits(volts),
-        amps: from_bits(amps),
+    match kind {
+        0 => Reading::Nothing,
+        1 => Reading::Volts(from_bits(volts)),
+        _ => Reading::VoltsAmps {
+            volts: from_bits(volts),
+            amps: from_bits(amps),
+        },
     }
 }
 
 // The battery of the numbers, after `Battery::update`.
+#[tactic(auto, unfolding(crate::specs::Batt::update_from_of))]
 fn update_from(ns: &[u32], dt: u32, kind: u32, volts: u32, amps: u32) -> Battery
     ensures { result ≡ update_from_of ns.now dt kind volts amps }
 {
@@ -113,6 +117,7 @@ fn update_from(ns: &[u32], dt: u32, kind: u32, volts: u32, amps: u32) -> Battery
 }
 
 // The pack's numbers.
+#[tactic(auto, unfolding(crate::specs::Batt::config_numbers_of))]
 fn config_numbers(c: BattConfig) -> [u32; 8]
     ensures { result ≡ config_numbers_of c }
 {
@@ -128,50 +133,44 @@ fn config_numbers(c: BattConfig) -> [u32; 8]
     ]
 }
 
-// Stores a battery's numbers, from the start on.
-fn put_battery(out: &mut [u32], b: Battery)
-    requires { size ≤ length out.old }
-    ensures { out.new ≡ sets out.old 0 (packed_numbers b) }
+// Stores a battery's numbers, from the start on. Answers C's number: 0, or 1 where the slice has under 29 numbers, and then nothing changes.
+#[tactic(auto, using(crate::proofs::Stored::parts_whole), unfolding(crate::specs::Batt::short_number, crate::specs::Batt::stored_of))]
+fn store(numbers: &mut [u32], b: Battery) -> u32
+    ensures answer { result ≡ short_number numbers.old }
+    ensures stored { numbers.new ≡ stored_of numbers.old b }
 {
-    let est = b.est;
-    let cfg = est.cfg;
-    let state = b.state;
-    let part = config_numbers(cfg);
-    put(out, 0, &part);
-    let part = estimator_numbers(est);
-    put(out, 8, &part);
-    let part = state_numbers(state);
-    put(out, 17, &part);
-    let part = silence_numbers(b);
-    put(out, 26, &part);
+    if numbers.len() < SIZE {
+        return 1;
+    }
+    numbers[..8].copy_from_slice(&config_numbers(b.est.cfg));
+    numbers[8..17].copy_from_slice(&estimator_numbers(b.est));
+    numbers[17..26].copy_from_slice(&state_numbers(b.state));
+    numbers[26..SIZE].copy_from_slice(&silence_numbers(b));
+    0
 }
 
 // `Battery::new` for the pack of the first eight numbers. Answers 0, or 1 where the slice has under 29 numbers, and then nothing changes.
+#[tactic(auto, unfolding(crate::specs::Batt::new_from))]
 #[unsafe(no_mangle)]
 pub extern "C" fn bartsemmo_battery_new(numbers: &mut [u32]) -> u32
     ensures answer { result ≡ short_number numbers.old }
     ensures stored { numbers.new ≡ stored_of numbers.old (new_from numbers.old) }
 {
-    if numbers.len() < SIZE {
-        return 1;
-    }
     let battery = Battery::new(config_from(numbers));
-    put_battery(numbers, battery);
-    0
+    store(numbers, battery)
 }
 
 // `Battery::new` for the built-in pack with so many cells, at an opening's volts. Answers 0, or 1 where the slice has under 29 numbers, and then nothing changes.
+#[tactic(auto, unfolding(crate::specs::Batt::opened_for))]
 #[unsafe(no_mangle)]
 pub extern "C" fn bartsemmo_battery_opened(numbers: &mut [u32], cells: u32, volts: u32) -> u32
     ensures answer { result ≡ short_number numbers.old }
     ensures stored { numbers.new ≡ stored_of numbers.old (opened_for cells volts) }
 {
-    if numbers.len() < SIZE {
-        return 1;
-    }
-    let battery = Battery::new(BattConfig::for_pack(cells, from_bits(volts)));
-    put_battery(numbers, battery);
-    0
+    store(
+        numbers,
+        Battery::new(BattConfig::for_pack(cells, from_bits(volts))),
+    )
 }
 
 // `Battery::update`, with a reading of kind 0 nothing, 1 volts, any other volts and amps. Answers 0, or 1 where the slice has under 29 numbers, and then nothing changes.
@@ -186,10 +185,6 @@ pub extern "C" fn bartsemmo_battery_update(
     ensures answer { result ≡ short_number numbers.old }
     ensures stored { numbers.new ≡ stored_of numbers.old (update_from_of numbers.old dt kind volts amps) }
 {
-    if numbers.len() < SIZE {
-        return 1;
-    }
     let battery = update_from(numbers, dt, kind, volts, amps);
-    put_battery(numbers, battery);
-    0
+    store(numbers, battery)
 }

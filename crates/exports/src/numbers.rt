@@ -1,12 +1,11 @@
-// Flags, bits and floats as numbers, and a run of numbers stored into a slice.
+// Flags, bits and floats as numbers.
 
-ghost use Rattle.std.specs.Prelude.{◌≡◌, ◌+◌, ◌≤◌, ◌<◌, length, get_or};
-ghost use Rattle.std.proofs.lemmas.List.Edits.{sets};
+ghost use Rattle.std.specs.Prelude.{◌≡◌, ◌<◌, get_or};
 ghost use Rattle.exports.specs.Numbers.{bit, float_at, flag_at_of};
 
 use relay_math::from_bits;
 
-// The answer where a number stands for nothing.
+// The answer where a number stands for nothing: the C interface has numbers alone.
 pub const UNKNOWN: u32 = 0xffff_ffff;
 
 // Whether the bit of a power of two is set in n.
@@ -21,10 +20,7 @@ pub(crate) fn is_set(n: u32, power: u32) -> bool
 pub fn number(ns: &[u32], i: usize) -> u32
     ensures { result ≡ get_or ns.now i 0 }
 {
-    if i < ns.len() {
-        return ns[i];
-    }
-    0
+    ns.get(i).copied().unwrap_or(0)
 }
 
 // The float whose bits stand at a place, 0.0 beyond the end.
@@ -39,16 +35,4 @@ pub fn is_one(ns: &[u32], i: usize) -> bool
     ensures { result ≡ flag_at_of ns.now i }
 {
     number(ns, i) == 1
-}
-
-// Stores the numbers of `part` one after the other from a place on.
-pub(crate) fn put(out: &mut [u32], at: usize, part: &[u32])
-    requires { at + length part.now ≤ length out.old }
-    ensures { out.new ≡ sets out.old at part.now }
-{
-    let mut i = 0;
-    while i < part.len() {
-        out[at + i] = part[i];
-        i += 1;
-    }
 }

@@ -3,6 +3,7 @@
 use mathlib.Core.Path.{◌≡◌, ◌∙◌, ap}
 use lib.Dec.{lit<}
 use lib.Ieee.{Float, binary32, sub, lt}
+use Rattle.std.specs.Prelude.{None}
 use Rattle.relay_batt.specs.declared.battery.Battery.{Battery}
 use Rattle.relay_batt.specs.declared.battery.Reading.TheVariants.{Volts}
 use Rattle.relay_batt.specs.Config.{pack_cells, capacity_of, pack_capacity_mah, pack_debounce_s, per_cell_of, crit_below_low, FromPack}
@@ -29,7 +30,7 @@ unfolding planned_of
 planned_pack f p k = k
 
 -- an accepted call
-pub after_pack : (s : Supervisor) (r : Request) → OwnPack s.flight → refusal_of s r ≡ 0 → OwnPack (after_of s r).flight
+pub after_pack : (s : Supervisor) (r : Request) → OwnPack s.flight → refusal_of s r ≡ None → OwnPack (after_of s r).flight
 unfolding after_of flight_after start_of commanded_by opened_of
 after_pack s (opens o) k e = opened_pack pack_cells o.low_batt_v (lit< tt)
 after_pack s (ticks t) k e =

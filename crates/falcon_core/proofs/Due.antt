@@ -10,24 +10,26 @@ use Rattle.falcon_guidance.specs.declared.state.Legs.{Legs}
 use Rattle.falcon_guidance.specs.declared.state.Tick.{Tick}
 use Rattle.falcon_failsafe.specs.declared.flight.FlightSupervisor.{FlightSupervisor}
 use Rattle.falcon_core.specs.declared.supervisor.Supervisor.{Supervisor}
+use Rattle.std.specs.Prelude.{None, Ok}
+use Rattle.falcon_core.specs.declared.calls.Output.{Output}
 use Rattle.falcon_flight.specs.declared.tick.TickAnswer.{TickAnswer}
 use Rattle.falcon_flight.specs.declared.tick.TickAnswer.TheVariants.{MotorsOff, Setpoint}
 use Rattle.falcon_core.specs.Supervisor.{unopened}
 use Rattle.falcon_flight.specs.Setpoint.{motors_off_of}
 use Rattle.falcon_flight.specs.Tick.{after_milestone, holding_of, ended_of, tick_of}
-use Rattle.falcon_core.specs.Calls.{Request, Planning, opens, ticks, reports, commands, plans, points, zones, totals, saves, due_after_of, plan_output, report_due_after, refusal_of, legs_in, flight_after, after_of, output_of, answer_of, accepted_of, step_of}
-use Rattle.falcon_core.proofs.Answers.{step_accepted}
+use Rattle.falcon_core.specs.Calls.{Request, opens, ticks, reports, commands, plans, due_after_of, report_due_after, refusal_of, legs_in, flight_after, after_of, output_of, answer_of, accepted_of, step_of}
+use Rattle.falcon_core.proofs.Answers.{step_accepted, plan_none_due}
 use Rattle.falcon_core.proofs.Parts.{answered_due, tick_flight}
 
 -- after an accepted call a report is due exactly where it answers a setpoint
-pub due_after_lem : (s : Supervisor) (r : Request) → refusal_of s r ≡ 0 → (after_of s r).report_due ≡ report_due_after (output_of s.flight (legs_in s) r)
+pub due_after_lem : (s : Supervisor) (r : Request) → refusal_of s r ≡ None → (after_of s r).report_due ≡ report_due_after (output_of s.flight (legs_in s) r)
 unfolding after_of
 due_after_lem s r e = refl
 
 -- the same of the call's answer
-pub step_due : (s : Supervisor) (r : Request) → refusal_of s r ≡ 0 → (step_of s r).supervisor.report_due ≡ report_due_after (step_of s r).answer.output
+pub step_due : (s : Supervisor) (r : Request) (out : Output) → refusal_of s r ≡ None → (step_of s r).answer.outcome ≡ Ok out → (step_of s r).supervisor.report_due ≡ report_due_after out
 unfolding accepted_of answer_of
-step_due s r e = rw (step_accepted s r e) (due_after_lem s r e)
+step_due s r out e h = let o : output_of s.flight (legs_in s) r ≡ out = cc (rw (step_accepted s r e) at h) in rw (step_accepted s r e) (due_after_lem s r e ∙ ap report_due_after o)
 
 -- the call is a tick whose answer is not motors off
 pub record FlyingTick (s : Supervisor) (r : Request) : Type 0 where
@@ -45,13 +47,6 @@ due_if_on : (a : TickAnswer) → (a ≡ MotorsOff → ⊥) → due_after_of a �
 due_if_on MotorsOff h = absurd (h refl)
 due_if_on (Setpoint ned landing rearm) h = refl
 
--- none after what the planner asks
-plan_none_due : (p : Planning) → report_due_after (plan_output p) ≡ false
-plan_none_due (points l) = refl
-plan_none_due (zones l) = refl
-plan_none_due totals = refl
-plan_none_due saves = refl
-
 due_flying : (s : Supervisor) (r : Request) → report_due_after (output_of s.flight (legs_in s) r) ≡ true → FlyingTick s r
 unfolding output_of
 due_flying s (opens o) d = absurd (clash refl d)
@@ -65,7 +60,7 @@ unfolding output_of
 flying_due s r k = rw k.asks (due_if_on (tick_of s.flight (legs_in s) k.tick).answer k.flies)
 
 -- "due after every tick that doesn't say motors off", and after no other accepted call
-pub due_only_after_tick : (s : Supervisor) (r : Request) → refusal_of s r ≡ 0 → ((step_of s r).supervisor.report_due ≡ true) ↔ FlyingTick s r
+pub due_only_after_tick : (s : Supervisor) (r : Request) → refusal_of s r ≡ None → ((step_of s r).supervisor.report_due ≡ true) ↔ FlyingTick s r
 unfolding accepted_of
 due_only_after_tick s r e =
     let after : (step_of s r).supervisor.report_due ≡ report_due_after (output_of s.flight (legs_in s) r) = rw (step_accepted s r e) (due_after_lem s r e) in
@@ -96,7 +91,7 @@ abbrev pub DueAirborne : Supervisor → Type 0
 DueAirborne s = s.report_due ≡ true → T (is_airborne_of s.flight.fsm.mode)
 
 -- an accepted call
-pub after_due_airborne : (s : Supervisor) (r : Request) → DueAirborne s → refusal_of s r ≡ 0 → DueAirborne (after_of s r)
+pub after_due_airborne : (s : Supervisor) (r : Request) → DueAirborne s → refusal_of s r ≡ None → DueAirborne (after_of s r)
 unfolding after_of flight_after output_of
 after_due_airborne s (opens o) k e d = absurd (clash refl d)
 after_due_airborne s (ticks t) k e d = subst T (sym (sym (tick_due s.flight (legs_in s) t) ∙ d)) tt

@@ -4,10 +4,11 @@ use native.Mathlib.Decide.{dec_lt}
 use native.Mathlib.Omega.{arith}
 use borrow.Author.Tests.{not-false, ltb-true, leb-false, le-leb, ne_eqb}
 use mathlib.Core.Bool.{Bool, true, false, cond, ◌&&◌, ◌||◌}
-use mathlib.Core.Option.{Option, none, some}
+use Rattle.std.specs.Prelude.{Option, Some, None}
 use mathlib.Core.List.{List}
 use mathlib.Core.Path.{◌≡◌, refl, sym, ap, ◌∙◌, subst}
 use lib.Dec.{T, eqb, ltb, leb, lit<, lit≤}
+use Rattle.std.proofs.lemmas.Bool.{or_parts}
 use Rattle.relay_fsm.specs.declared.Mode.{Mode}
 use Rattle.relay_fsm.specs.declared.Mode.TheVariants.{Mission as InMission}
 use Rattle.relay_fsm.specs.declared.Event.{Event}
@@ -90,8 +91,8 @@ on_tilt : (m : Mode) (n : ℕ) (e : Event) (g : Gates) → SoundTilt m n → Sou
 on_tilt m n e g k = record { at_most = k.at_most; ended = λ q. rw (k.ended q) (terminated_stays e g) }
 
 event_tilt : (m : Mode) (n : ℕ) (e : Option Event) → SoundTilt m n → SoundTilt (mode_after m e) n
-event_tilt m n none k = k
-event_tilt m n (some e) k = on_tilt m n e _ k
+event_tilt m n None k = k
+event_tilt m n (Some e) k = on_tilt m n e _ k
 
 -- an airborne mode has a count below 50
 airborne_below : (m : Mode) (n : ℕ) → is_airborne_of m ≡ true → SoundTilt m n → n < tilt_runaway_cycles
@@ -119,13 +120,9 @@ counted_tilt m n false tilted a k = record { at_most = rw a (omega arith); ended
 
 -- ---- the calls
 
-or_false : (a b : Bool) → (a || b) ≡ false → (a ≡ false) × (b ≡ false)
-or_false true b e = absurd (subst T e tt)
-or_false false b e = (refl, e)
-
 masks_below : (required passed : ℕ) → (leb mask_limit required || leb mask_limit passed) ≡ false → SoundChecks (new_of required passed)
 masks_below required passed e =
-    let both = or_false (leb mask_limit required) (leb mask_limit passed) e in
+    let both = or_parts (leb mask_limit required) (leb mask_limit passed) e in
     record { required_below = leb-false mask_limit required both.0; passed_below = leb-false mask_limit passed both.1 }
 
 -- an opening with masks below 2^21
@@ -218,7 +215,7 @@ tick_sound f ps l t k =
     subst (λ (g : FlightSupervisor). SoundFlight g ps) (sym (tick_flight f l t)) (record { checks = done.checks; mission = done.mission; zones = done.zones; tilt = done.tilt; battery = done.battery })
 
 -- an accepted opening starts from a sound flight
-pub start_sound : (s : Supervisor) (o : Opening) → refusal_of s (opens o) ≡ 0 → SoundFlight (start_of o) (start_points o)
+pub start_sound : (s : Supervisor) (o : Opening) → refusal_of s (opens o) ≡ None → SoundFlight (start_of o) (start_points o)
 unfolding start_of start_points
 start_sound s o e = opened_sound o (masks_below o.required o.passed (accepted_passed s (opens o) e).in_range_lem)
 
@@ -237,7 +234,7 @@ planned_sound f ps totals k e = k
 planned_sound f ps saves k e = k
 
 -- an accepted call
-pub after_sound : (s : Supervisor) (r : Request) → SoundFlight s.flight s.waypoints → refusal_of s r ≡ 0 → SoundFlight (after_of s r).flight (after_of s r).waypoints
+pub after_sound : (s : Supervisor) (r : Request) → SoundFlight s.flight s.waypoints → refusal_of s r ≡ None → SoundFlight (after_of s r).flight (after_of s r).waypoints
 unfolding after_of flight_after waypoints_after commanded_by
 after_sound s (opens o) k e = start_sound s o e
 after_sound s (ticks t) k e = tick_sound s.flight s.waypoints (legs_in s) t k

@@ -4,6 +4,7 @@ use mathlib.Core.Path.{◌≡◌, refl, subst}
 use mathlib.Core.List.{List}
 use lib.Dec.{T}
 use lib.Ieee.{Float}
+use Rattle.std.specs.Prelude.{None}
 use Rattle.relay_fsm.specs.declared.Event.TheVariants.{Failsafe}
 use Rattle.relay_fsm.specs.Fsm.{on_of}
 use Rattle.falcon_guidance.specs.declared.state.Point.{Point}
@@ -80,11 +81,11 @@ pub config_kept : (s : Supervisor) (r : Request) → is_opening r ≡ false → 
 config_kept s r h = step_keeps s r (λ (u : Supervisor). u.flight.config ≡ s.flight.config) refl (λ e. after_config s r h)
 
 -- an accepted list of points replaces the mission and nothing else of the flight
-pub points_flight : (s : Supervisor) (l : List Float) → refusal_of s (plans (points l)) ≡ 0 → (step_of s (plans (points l))).supervisor.flight ≡ with_mission s.flight (loaded_of l)
+pub points_flight : (s : Supervisor) (l : List Float) → refusal_of s (plans (points l)) ≡ None → (step_of s (plans (points l))).supervisor.flight ≡ with_mission s.flight (loaded_of l)
 unfolding after_of flight_after planned_of accepted_of
 points_flight s l e = rw (step_accepted s (plans (points l)) e)
 
 -- and the waypoints
-pub points_waypoints : (s : Supervisor) (l : List Float) → refusal_of s (plans (points l)) ≡ 0 → (step_of s (plans (points l))).supervisor.waypoints ≡ loaded_points_of l
+pub points_waypoints : (s : Supervisor) (l : List Float) → refusal_of s (plans (points l)) ≡ None → (step_of s (plans (points l))).supervisor.waypoints ≡ loaded_points_of l
 unfolding after_of waypoints_after accepted_of
 points_waypoints s l e = rw (step_accepted s (plans (points l)) e)

@@ -10,6 +10,7 @@ use lib.ListN.{length, get_or, set, replicate, length-append, length-set, length
 use lib.Seq.{get_or-append-add, get_or_at, get_or-set_same, get_or-set_other, ext_get_or}
 use lib.Ieee.{Float}
 use lib.Ieee.Fits.{and_l, and_r}
+use Rattle.std.specs.Prelude.{None}
 use Rattle.falcon_guidance.specs.declared.state.Config.{Config}
 use Rattle.falcon_guidance.specs.declared.state.Point.{Point}
 use Rattle.falcon_failsafe.specs.declared.flight.FlightSupervisor.{FlightSupervisor}
@@ -19,7 +20,8 @@ use Rattle.falcon_guidance.specs.declared.state.Zone.{Zone}
 use Rattle.falcon_guidance.specs.Zones.{no_place, zone_at_of, kept_of, stored_zones_of, loaded_zones_of}
 use Rattle.falcon_guidance.specs.Mission.{waypoint_admissible_of, point_at_of, tried_of, all_admissible_of, stored_of, loaded_of, loaded_points_of}
 use Rattle.falcon_core.specs.Calls.{plans, points, refusal_of, step_of}
-use Rattle.falcon_core.specs.SoundState.{first_of, filled_of, Tidy, SoundMission, SoundZones}
+use Rattle.falcon_guidance.specs.Lent.{filled_of}
+use Rattle.falcon_core.specs.SoundState.{first_of, Tidy, SoundMission, SoundZones}
 use Rattle.falcon_guidance.proofs.Waypoints.{tried_places}
 use Rattle.falcon_core.proofs.Parts.{points_flight, points_waypoints}
 
@@ -129,9 +131,8 @@ module _ {A : Type 0} where
 
 -- what `stored_of` fills
 pub stored_filled : (l : List Float) (n : ℕ) → stored_of l n ≡ filled_of (point_at_of l) n (replicate max_waypoints origin)
-unfolding stored_of filled_of
-stored_filled l zero = refl
-stored_filled l (suc n) = rw (stored_filled l n)
+unfolding stored_of
+stored_filled l n = refl
 
 -- the lent points in order, then the origin
 pub stored_is : (l : List Float) (n : ℕ) → n ≤ max_waypoints → stored_of l n ≡ first_of (point_at_of l) n ++ replicate (max_waypoints - n) origin
@@ -151,7 +152,7 @@ loaded_points_are l = stored_is l (min (length l / point_numbers_of) max_waypoin
 -- the mission after an accepted list
 pub points_loaded :
     (s : Supervisor) (l : List Float) →
-    refusal_of s (plans (points l)) ≡ 0 →
+    refusal_of s (plans (points l)) ≡ None →
     (step_of s (plans (points l))).supervisor.flight.mission ≡
     record { wp_count = min (length l / point_numbers_of) max_waypoints; wp_index = 0 }
 points_loaded s l e = ap (λ (f : FlightSupervisor). f.mission) (points_flight s l e) ∙ loaded_is l
@@ -159,7 +160,7 @@ points_loaded s l e = ap (λ (f : FlightSupervisor). f.mission) (points_flight s
 -- and the waypoints
 pub points_kept :
     (s : Supervisor) (l : List Float) →
-    refusal_of s (plans (points l)) ≡ 0 →
+    refusal_of s (plans (points l)) ≡ None →
     (step_of s (plans (points l))).supervisor.waypoints ≡
     first_of (point_at_of l) (min (length l / point_numbers_of) max_waypoints) ++ replicate (max_waypoints - min (length l / point_numbers_of) max_waypoints) origin
 points_kept s l e = points_waypoints s l e ∙ loaded_points_are l
@@ -168,9 +169,8 @@ points_kept s l e = points_waypoints s l e ∙ loaded_points_are l
 
 -- what `stored_zones_of` fills
 pub stored_zones_filled : (l : List Float) (n : ℕ) → stored_zones_of l n ≡ filled_of (zone_at_of l) n (replicate max_keepout_zones no_zone)
-unfolding stored_zones_of filled_of
-stored_zones_filled l zero = refl
-stored_zones_filled l (suc n) = rw (stored_zones_filled l n)
+unfolding stored_zones_of
+stored_zones_filled l n = refl
 
 kept_places : (l : List Float) → kept_of l ≤ max_keepout_zones
 unfolding kept_of

@@ -2,9 +2,9 @@
 -- Assumes nothing.
 use Prim.Native.Nat.{◌≤◌}
 use native.Mathlib.Nat.{le_trans}
-use mathlib.Core.Bool.{Bool, true, false, not, ◌&&◌, ◌||◌}
+use mathlib.Core.Bool.{Bool, false, not, ◌&&◌, ◌||◌}
 use mathlib.Core.Logic.{◌⊎◌, inl, inr, ⊎_elim}
-use mathlib.Core.Option.{Option, none, some}
+use Rattle.std.specs.Prelude.{Option, Some, None}
 use mathlib.Core.Path.{◌≡◌, sym, ◌∙◌, ap, subst}
 use lib.Dec.{T, leb, leb→le}
 use lib.Ieee.Fits.{and_i, and_l, and_r}
@@ -24,7 +24,7 @@ use Rattle.falcon_flight.specs.Milestone.{near_home_of, near_ground_of, mileston
 use Rattle.falcon_flight.specs.Tick.{sensed_of, after_breach, after_runaway, after_wind, after_milestone, tick_of, given_of}
 use Rattle.falcon_core.specs.Land.{led_to_land, through_land_of}
 use Rattle.falcon_core.proofs.Stages.{sensed_mode, breach_mode, runaway_mode, wind_mode, wind_config, tick_mode}
-use Rattle.falcon_core.proofs.Rules.{breach_by, runaway_by, wind_by, milestone_by_lem, report_by, tick_keeps}
+use Rattle.falcon_core.proofs.Rules.{or_l, or_r, breach_by, runaway_by, wind_by, milestone_by_lem, report_by, tick_keeps}
 
 -- what stays
 
@@ -97,20 +97,12 @@ module _ (f : FlightSupervisor) (failed : Bool) where
 
 -- through Land
 
-or_l : (a b : Bool) → T a → T (a || b)
-or_l true b h = tt
-or_l false b h = absurd h
-
-or_r : (a b : Bool) → T b → T (a || b)
-or_r true b h = tt
-or_r false b h = h
-
 -- the mode n after an event is Land only if the mode before was, or if the event led there
 land_from :
     (m n : Mode) (e : Option Event) (later : Bool)
     → n ≡ mode_after m e → T (is_mode n Land || later) → T (is_mode m Land || (led_to_land m e || later))
-land_from m n none later q h = rw q at h
-land_from m n (some e) later q h = or_r (is_mode m Land) (is_mode (on_of m e in_flight_of) Land || later) (rw q at h)
+land_from m n None later q h = rw q at h
+land_from m n (Some e) later q h = or_r (is_mode m Land) (is_mode (on_of m e in_flight_of) Land || later) (rw q at h)
 
 module _ (f : FlightSupervisor) (l : Legs) (t : Tick) where
   -- a tick whose milestone meets Land goes through Land

@@ -1,11 +1,11 @@
 -- What a rule over modes and tests, true in every case, says of a stage: `wind_by (λ gusty enough m n. rule) tt`, with m the mode before and n the mode after.
 -- Assumes nothing.
-use mathlib.Core.Bool.{Bool, ◌&&◌}
+use mathlib.Core.Bool.{Bool, true, false, ◌&&◌, ◌||◌}
 use mathlib.Core.Path.{◌≡◌, sym, ◌∙◌, ap, subst}
 use lib.Dec.{T}
 use lib.Ieee.Fits.{and_l, and_r}
 use Rattle.relay_fsm.specs.declared.Mode.{Mode}
-use Rattle.relay_fsm.proofs.Finite.{◌⇒◌, then, all1, all2, all5, at1, at2, at5}
+use Rattle.relay_fsm.proofs.Finite.{◌⇒◌, then, all, at}
 use Rattle.relay_batt.specs.Battery.{update_of}
 use Rattle.falcon_guidance.specs.declared.state.Legs.{Legs}
 use Rattle.falcon_guidance.specs.declared.state.Tick.{Tick}
@@ -15,6 +15,15 @@ use Rattle.falcon_failsafe.specs.Failsafe.{gusty_of, wind_enough, wind_event, wi
 use Rattle.falcon_flight.specs.Milestone.{high_of, near_home_of, near_ground_of, arrived_of, more_of, milestone_event, milestone_gives}
 use Rattle.falcon_flight.specs.Tick.{sensed_of, after_breach, after_runaway, after_wind, after_milestone, tick_of}
 use Rattle.falcon_core.proofs.Stages.{sensed_mode, sensed_battery, breach_mode, runaway_mode, wind_mode, milestone_mode, tick_mode, mode_reported, report_mode}
+
+-- one of two tests is enough
+pub or_l : (a b : Bool) → T a → T (a || b)
+or_l true b h = tt
+or_l false b h = absurd h
+
+pub or_r : (a b : Bool) → T b → T (a || b)
+or_r true b h = tt
+or_r false b h = h
 
 -- the rules
 
@@ -26,23 +35,23 @@ Rule5 = Bool → Bool → Bool → Bool → Bool → Mode → Mode → Bool
 
 -- breach, critical
 abbrev pub breach_rule : Rule2 → Bool
-breach_rule r = all2 (λ b c m. r b c m (mode_after m (breach_event m b c)))
+breach_rule r = all 2 (λ b c m. r b c m (mode_after m (breach_event m b c)))
 
 -- tilted, enough
 abbrev pub runaway_rule : Rule2 → Bool
-runaway_rule r = all2 (λ b c m. r b c m (mode_after m (runaway_event m b c)))
+runaway_rule r = all 2 (λ b c m. r b c m (mode_after m (runaway_event m b c)))
 
 -- gusty, enough
 abbrev pub wind_rule : Rule2 → Bool
-wind_rule r = all2 (λ b c m. r b c m (mode_after m (wind_event m b c)))
+wind_rule r = all 2 (λ b c m. r b c m (mode_after m (wind_event m b c)))
 
 -- high, near home, near the ground, arrived, more legs
 abbrev pub milestone_rule : Rule5 → Bool
-milestone_rule r = all5 (λ a b c d e m. r a b c d e m (mode_after m (milestone_event m a b c d e)))
+milestone_rule r = all 5 (λ a b c d e m. r a b c d e m (mode_after m (milestone_event m a b c d e)))
 
 -- failed
 abbrev pub report_rule : (Bool → Mode → Mode → Bool) → Bool
-report_rule r = all1 (λ b m. r b m (mode_reported m b))
+report_rule r = all 1 (λ b m. r b m (mode_reported m b))
 
 -- the stages
 
@@ -60,7 +69,7 @@ module _ (f : FlightSupervisor) (t : Tick) where
       let b : Bool = breach_of (sensed_of f t) t in
       let c : Bool = (update_of f.battery t.dt t.reading).state.critical in
       subst (λ (n : Mode). T (r b c f.fsm.mode n)) (sym (breach_mode f t ∙ ap (mode_after f.fsm.mode) breach_gives_lem))
-      (at2 (λ b c m. r b c m (mode_after m (breach_event m b c))) h b c f.fsm.mode)
+      (at 2 (λ b c m. r b c m (mode_after m (breach_event m b c))) h b c f.fsm.mode)
 
   pub runaway_by :
       (r : Rule2) → T (runaway_rule r)
@@ -68,7 +77,7 @@ module _ (f : FlightSupervisor) (t : Tick) where
   unfolding runaway_gives
   runaway_by r h =
       rw (runaway_mode f t)
-      (at2 (λ b c m. r b c m (mode_after m (runaway_event m b c))) h (tilted_of t) (runaway_enough (runaway_counted (after_breach f t) t)) (after_breach f t).fsm.mode)
+      (at 2 (λ b c m. r b c m (mode_after m (runaway_event m b c))) h (tilted_of t) (runaway_enough (runaway_counted (after_breach f t) t)) (after_breach f t).fsm.mode)
 
   pub wind_by :
       (r : Rule2) → T (wind_rule r)
@@ -76,7 +85,7 @@ module _ (f : FlightSupervisor) (t : Tick) where
   unfolding wind_gives
   wind_by r h =
       rw (wind_mode f t)
-      (at2 (λ b c m. r b c m (mode_after m (wind_event m b c))) h (gusty_of t) (wind_enough (wind_counted (after_runaway f t) t)) (after_runaway f t).fsm.mode)
+      (at 2 (λ b c m. r b c m (mode_after m (wind_event m b c))) h (gusty_of t) (wind_enough (wind_counted (after_runaway f t) t)) (after_runaway f t).fsm.mode)
 
 module _ (f : FlightSupervisor) (l : Legs) (t : Tick) where
   pub milestone_by_lem :
@@ -85,12 +94,12 @@ module _ (f : FlightSupervisor) (l : Legs) (t : Tick) where
   unfolding milestone_gives
   milestone_by_lem r h =
       rw (milestone_mode f l t)
-      (at5 (λ a b c d e m. r a b c d e m (mode_after m (milestone_event m a b c d e))) h (high_of (after_wind f t).config t) (near_home_of (after_wind f t).config t) (near_ground_of (after_wind f t).config t) (arrived_of l t) (more_of (after_wind f t).mission) (after_wind f t).fsm.mode)
+      (at 5 (λ a b c d e m. r a b c d e m (mode_after m (milestone_event m a b c d e))) h (high_of (after_wind f t).config t) (near_home_of (after_wind f t).config t) (near_ground_of (after_wind f t).config t) (arrived_of l t) (more_of (after_wind f t).mission) (after_wind f t).fsm.mode)
 
 pub report_by :
     (r : Bool → Mode → Mode → Bool) → T (report_rule r)
     → (f : FlightSupervisor) (failed : Bool) → T (r failed f.fsm.mode (reported_of f failed).fsm.mode)
-report_by r h f failed = rw (report_mode f failed) (at1 (λ b m. r b m (mode_reported m b)) h failed f.fsm.mode)
+report_by r h f failed = rw (report_mode f failed) (at 1 (λ b m. r b m (mode_reported m b)) h failed f.fsm.mode)
 
 -- the whole tick: what each stage keeps
 

@@ -3,7 +3,7 @@ use Prim.Native.Nat.{ℕ, zero, suc, ◌≤◌, ◌<◌}
 use native.Mathlib.Nat.{not-suc-le-zero}
 use native.Mathlib.Decide.{dec_lt}
 use native.Mathlib.Omega.{arith}
-use mathlib.Core.Bool.{Bool, true, false, ◌&&◌, ◌||◌}
+use mathlib.Core.Bool.{Bool, true, ◌&&◌, ◌||◌}
 use mathlib.Core.List.{List, [], ◌∷◌}
 use mathlib.Core.Logic.{inl, inr}
 use mathlib.Core.Path.{◌≡◌, sym, ap, ◌∙◌}
@@ -35,6 +35,7 @@ use Rattle.falcon_guidance.specs.Zones.{no_place}
 use Rattle.falcon_failsafe.specs.Failsafe.{tilt_runaway_cycles}
 use Rattle.falcon_core.specs.Calls.{Request, step_of}
 use Rattle.falcon_core.specs.SoundState.{Tidy, each_below_of, checks_sound_of, counts_sound_of, points_sound_of, leg_sound_of, tilt_sound_of, zero_bits, zero_point, zero_zone, unused_sound, unused_sound_of, sound_tests, sound_of, SoundChecks, SoundMission, SoundZones, SoundTilt, SoundFlight, FitPoint, FitZone, FitFlight}
+use Rattle.falcon_core.proofs.Rules.{or_l, or_r}
 use Rattle.falcon_core.proofs.Invariant.{step_sound, unopened_sound}
 
 -- ---- tests of every number and of every entry
@@ -58,14 +59,6 @@ each [] t i = tt
 each (b ∷ l) t zero = and_l b (all l) t
 each (b ∷ l) t (suc i) = each l (and_r b (all l) t) i
 
-or_i : (a b : Bool) → (T b) → T (a || b)
-or_i true b t = tt
-or_i false b t = t
-
-or_first : (a b : Bool) → T a → T (a || b)
-or_first true b t = tt
-or_first false b t = absurd t
-
 -- ---- the places
 
 module _ {A : Type 0} (Held : A → Type 0) (test : A → Bool) (d z : A) (size : ℕ) (l : List A) (count : ℕ) where
@@ -75,8 +68,8 @@ module _ {A : Type 0} (Held : A → Type 0) (test : A → Bool) (d z : A) (size 
       (each_below (λ i. ltb i count || test (get_or l i d)) size
       (λ i p.
       elim (dec_lt i count) [
-        | yes q ↦ or_first (ltb i count) (test (get_or l i d)) (lt→ltb i count q)
-        | no q ↦ or_i (ltb i count) (test (get_or l i d)) (rw (k.beyond i (omega arith) p) h)
+        | yes q ↦ or_l (ltb i count) (test (get_or l i d)) (lt→ltb i count q)
+        | no q ↦ or_r (ltb i count) (test (get_or l i d)) (rw (k.beyond i (omega arith) p) h)
       ]))
 
   unused_back :
@@ -146,8 +139,8 @@ unfolding tilt_sound_of
 tilt_test m n h =
     and_i (leb n tilt_runaway_cycles) (ltb n tilt_runaway_cycles || is_mode m Terminated) (le→leb n tilt_runaway_cycles h.at_most)
     (elim (dec_lt n tilt_runaway_cycles) [
-      | yes p ↦ or_first (ltb n tilt_runaway_cycles) (is_mode m Terminated) (lt→ltb n tilt_runaway_cycles p)
-      | no q ↦ or_i (ltb n tilt_runaway_cycles) (is_mode m Terminated) (eq→is_mode m Terminated (h.ended (omega (arith, h.at_most))))
+      | yes p ↦ or_l (ltb n tilt_runaway_cycles) (is_mode m Terminated) (lt→ltb n tilt_runaway_cycles p)
+      | no q ↦ or_r (ltb n tilt_runaway_cycles) (is_mode m Terminated) (eq→is_mode m Terminated (h.ended (omega (arith, h.at_most))))
     ])
 
 places_test : (c : Config) (ps : List Point) (m : Mission) (zs : Zones) → SoundMission c ps m → SoundZones zs → T (unused_sound_of ps m zs)

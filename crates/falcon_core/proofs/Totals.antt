@@ -1,7 +1,8 @@
 -- The day totals stand beside the rest of the state: nothing but the numbers behind an answer's ten depends on them. Assumes nothing.
-use Prim.Native.Nat.{ℕ, zero, suc}
 use mathlib.Core.Bool.{◌||◌}
 use mathlib.Core.Path.{◌≡◌, refl, ◌∙◌}
+use Rattle.std.specs.Prelude.{Option, Some, None}
+use Rattle.falcon_core.specs.declared.refusal.Refusal.{Refusal}
 use Rattle.falcon_totals.specs.declared.DayTotals.{DayTotals}
 use Rattle.falcon_core.specs.declared.supervisor.Supervisor.{Supervisor}
 use Rattle.falcon_core.specs.declared.calls.Answered.{Answered}
@@ -10,10 +11,10 @@ use Rattle.falcon_core.proofs.Answers.{step_refused, step_accepted}
 
 -- the state with these totals for its own
 abbrev pub with_totals : Supervisor → DayTotals → Supervisor
-with_totals s t = record { flight = s.flight; waypoints = s.waypoints; opened = s.opened; report_due = s.report_due; totals = t }
+with_totals s t = record s { totals = t }
 
 -- an accepted call leaves of the rest what it did before there were totals
-pub inner_after : (s : Supervisor) (r : Request) → refusal_of s r ≡ 0
+pub inner_after : (s : Supervisor) (r : Request) → refusal_of s r ≡ None
     → (step_of s r).supervisor
     ≡ record { flight = flight_after s.flight (legs_in s) r; waypoints = waypoints_after s.waypoints r; opened = is_opening r || s.opened; report_due = report_due_after (output_of s.flight (legs_in s) r); totals = (after_of s r).totals }
 unfolding after_of accepted_of
@@ -33,10 +34,10 @@ module _ (s : Supervisor) (t : DayTotals) where
   abbrev Apart : Answered → Answered → Type 0
   Apart a b = (a.answer ≡ b.answer) × (a.supervisor ≡ with_totals b.supervisor a.supervisor.totals)
 
-  apart_by : (r : Request) (n : ℕ) → refusal_of s r ≡ n → Apart (step_of (with_totals s t) r) (step_of s r)
+  apart_by : (r : Request) (o : Option Refusal) → refusal_of s r ≡ o → Apart (step_of (with_totals s t) r) (step_of s r)
   unfolding refused_of accepted_of answer_of after_of
-  apart_by r zero e = rw (step_accepted s r e, step_accepted (with_totals s t) r (refusal_apart r ∙ e)) (refl, refl)
-  apart_by r (suc n) e = rw (step_refused s r n e, step_refused (with_totals s t) r n (refusal_apart r ∙ e)) (refl, refl)
+  apart_by r None e = rw (step_accepted s r e, step_accepted (with_totals s t) r (refusal_apart r ∙ e)) (refl, refl)
+  apart_by r (Some n) e = rw (step_refused s r n e, step_refused (with_totals s t) r n (refusal_apart r ∙ e)) (refl, refl)
 
   -- no answer's ten fields depend on the totals, and no other part of the state does
   pub totals_apart : (r : Request) → Apart (step_of (with_totals s t) r) (step_of s r)

@@ -1,11 +1,11 @@
 -- The calls: what each asks, which refusal fits, the state after it and its answer.
-use Rattle.std.specs.Prelude.{ℕ, ◌%◌, Bool, true, false, cond, not, ◌&&◌, ◌||◌, List, [], ◌∷◌, ◌++◌, eqb, leb, length, Float}
+use Rattle.std.specs.Prelude.{ℕ, ◌%◌, Bool, true, false, cond, not, ◌&&◌, ◌||◌, List, [], ◌∷◌, ◌++◌, eqb, leb, length, Float, Option, Some, None, is_none, Result, Ok, Err, ◌≡◌, MatchOption}
+use Rattle.std.specs.Option.{option_or, option_map_or}
 use Rattle.relay_fsm.specs.declared.Event.{Event}
 use Rattle.relay_fsm.specs.declared.Mode.{Mode}
 use Rattle.relay_fsm.specs.Mode.{mode_number}
 use Rattle.relay_fsm.specs.Fsm.{on_of}
-use Rattle.relay_preflight.specs.declared.TableVerdict.{TableVerdict}
-use Rattle.relay_preflight.specs.declared.TableVerdict.TheVariants.{Allowed, Blocked}
+use Rattle.relay_preflight.specs.declared.CheckId.{CheckId}
 use Rattle.relay_preflight.specs.Table.{outstanding_of, mask_limit}
 use Rattle.relay_preflight.specs.Verdict.{first_blocker_of, blocker_number}
 use Rattle.falcon_failsafe.specs.declared.flight.Opening.{Opening}
@@ -23,7 +23,8 @@ use Rattle.falcon_core.specs.declared.calls.Output.{Output}
 use Rattle.falcon_core.specs.declared.calls.Output.TheVariants.{Nothing, Ticks, Totals, Record}
 use Rattle.falcon_core.specs.declared.calls.Answer.{Answer}
 use Rattle.falcon_core.specs.declared.calls.Answered.{Answered}
-use Rattle.falcon_core.specs.declared.calls.FlightAnswered.{FlightAnswered}
+use Rattle.falcon_core.specs.declared.calls.Flown.{Flown}
+use Rattle.falcon_core.specs.declared.calls.FlownAnswered.{FlownAnswered}
 use Rattle.falcon_failsafe.specs.Flight.{opened_of, with_mode, with_mission, with_zones}
 use Rattle.falcon_guidance.specs.State.{origin, point_numbers_of, zone_numbers_of}
 use Rattle.falcon_guidance.specs.Mission.{no_points_of, tried_of, all_admissible_of, loaded_of, loaded_points_of, legs_of}
@@ -32,7 +33,9 @@ use Rattle.falcon_failsafe.specs.Failsafe.{reported_of}
 use Rattle.falcon_flight.specs.Tick.{tick_of}
 use Rattle.falcon_totals.specs.declared.DayTotals.{DayTotals}
 use Rattle.falcon_totals.specs.Totals.{no_totals, counted_of}
-use Rattle.falcon_core.specs.Refusals.{or_else, wrong_count, out_of_range, no_opening, report_due, no_report_due, inadmissible}
+use Rattle.falcon_core.specs.declared.refusal.Refusal.{Refusal}
+use Rattle.falcon_core.specs.declared.refusal.Refusal.TheVariants.{WrongCount, OutOfRange, NoOpening, ReportDue, NoReportDue, Inadmissible}
+use Rattle.falcon_core.specs.Refusals.{outcome_number}
 
 -- what the planner asks between ticks: points (three numbers each), zones (four numbers each), the day totals or the state itself. It leaves the mode,
 -- the battery, the counts and the configuration as they are
@@ -101,28 +104,32 @@ point_refused s (reports failed) = false
 point_refused s (commands ev level low) = false
 point_refused s (plans p) = plan_refused s.flight p
 
--- 4 and 5, which need no state
-unfoldable pub shape_refusal : Request → ℕ
-shape_refusal r = cond (miscounted r) wrong_count (cond (masks_too_large r) out_of_range 0)
+-- a refusal where its test holds
+abbrev pub refused_where : Bool → Refusal → Option Refusal
+refused_where test refusal = cond test (Some refusal) None
+
+-- 4 and 5, which need no state. "They are tried in this order": a refusal, and where there is none the next
+unfoldable pub shape_refusal : Request → Option Refusal
+shape_refusal r = option_or (refused_where (miscounted r) WrongCount) (refused_where (masks_too_large r) OutOfRange)
 
 -- 1, 6 and 7, of a call that is no opening: by whether there was an opening, whether a report is due, and whether the call is a report
-unfoldable pub sequence_refusal_of : Bool → Bool → Bool → ℕ
+unfoldable pub sequence_refusal_of : Bool → Bool → Bool → Option Refusal
 sequence_refusal_of opened due report =
-    cond (not opened) no_opening (cond (due && not report) report_due (cond (report && not due) no_report_due 0))
+    option_or (refused_where (not opened) NoOpening)
+    (option_or (refused_where (due && not report) ReportDue) (refused_where (report && not due) NoReportDue))
 
 -- 1, 6, 7 and 8, which need the state: an opening is taken at any time
-unfoldable pub state_refusal : Supervisor → Request → ℕ
+unfoldable pub state_refusal : Supervisor → Request → Option Refusal
 state_refusal s r =
-    or_else (cond (is_opening r) 0 (sequence_refusal_of s.opened s.report_due (is_report r))) (cond (point_refused s r) inadmissible 0)
+    option_or (cond (is_opening r) None (sequence_refusal_of s.opened s.report_due (is_report r))) (refused_where (point_refused s r) Inadmissible)
 
--- the refusal that fits, in the table's order: 4, 5, 1, 6, 7, 8; 0 where none does
-unfoldable pub refusal_of : Supervisor → Request → ℕ
-refusal_of s r = or_else (shape_refusal r) (state_refusal s r)
+-- the refusal that fits, in the table's order: 4, 5, 1, 6, 7, 8; none where none does
+unfoldable pub refusal_of : Supervisor → Request → Option Refusal
+refusal_of s r = option_or (shape_refusal r) (state_refusal s r)
 
 -- no check blocks arming
-abbrev pub allowed_of : TableVerdict → Bool
-allowed_of Allowed = true
-allowed_of (Blocked id) = false
+abbrev pub allowed_of : Option CheckId → Bool
+allowed_of blocker = is_none blocker
 
 -- `command`: the check table is the gate for arming, and a position is had
 unfoldable pub commanded_by : FlightSupervisor → Event → Bool → Bool → FlightSupervisor
@@ -229,60 +236,40 @@ after_of s r =
     }
 
 -- "the mode as it is", and "the last two fields as they are"
-unfoldable pub answer_of : FlightSupervisor → ℕ → Output → Answer
-answer_of f refusal out =
+unfoldable pub answer_of : FlightSupervisor → Result Output Refusal → Answer
+answer_of f outcome =
     record {
-      refusal = refusal;
+      outcome = outcome;
       mode = f.fsm.mode;
-      output = out;
       outstanding = outstanding_of f.check_table;
-      verdict = first_blocker_of f.check_table;
+      blocker = first_blocker_of f.check_table;
     }
 
 -- "A refusal keeps the state"
-unfoldable pub refused_of : Supervisor → ℕ → Answered
-refused_of s refusal = record { supervisor = s; answer = answer_of s.flight refusal Nothing }
+unfoldable pub refused_of : Supervisor → Refusal → Answered
+refused_of s refusal = record { supervisor = s; answer = answer_of s.flight (Err refusal) }
 
 unfoldable pub accepted_of : Supervisor → Output → Answered
-accepted_of s out = record { supervisor = s; answer = answer_of s.flight 0 out }
+accepted_of s out = record { supervisor = s; answer = answer_of s.flight (Ok out) }
+
+-- a call from this state that is refused, or leaves a state and answers this
+abbrev pub settled_of : Supervisor → Result (Supervisor × Output) Refusal → Answered
+settled_of before (Ok after) = accepted_of after.0 after.1
+settled_of before (Err refusal) = refused_of before refusal
 
 -- a call: refused with the first refusal that fits, else accepted
 unfoldable pub step_of : Supervisor → Request → Answered
-step_of s r = cond (eqb (refusal_of s r) 0) (accepted_of (after_of s r) (output_of s.flight (legs_in s) r)) (refused_of s (refusal_of s r))
+step_of s r = option_map_or (refused_of s) (refusal_of s r) (accepted_of (after_of s r) (output_of s.flight (legs_in s) r))
+
+-- 1, 6 or 7, or nothing
+abbrev pub sequence_of : Bool → Bool → Bool → Result Unit Refusal
+sequence_of opened due report = option_map_or Err (sequence_refusal_of opened due report) (Ok tt)
 
 -- a call in sequence that changes nothing and is answered with this; else 1 or 6
 unfoldable pub told_of : Supervisor → Output → Answered
-told_of s out =
-    cond (eqb (sequence_refusal_of s.opened s.report_due false) 0) (accepted_of s out)
-    (refused_of s (sequence_refusal_of s.opened s.report_due false))
+told_of s out = option_map_or (refused_of s) (sequence_refusal_of s.opened s.report_due false) (accepted_of s out)
 
--- ---- a tick, a report or a command: what it leaves of the flight, without the waypoints
-
--- a refusal keeps the flight, and whether a report is due
-unfoldable pub flight_refused_of : FlightSupervisor → Bool → ℕ → FlightAnswered
-flight_refused_of f due refusal = record { flight = f; report_due = due; answer = answer_of f refusal Nothing }
-
--- an accepted one
-unfoldable pub flight_accepted_of : FlightSupervisor → Bool → Output → FlightAnswered
-flight_accepted_of f due out = record { flight = f; report_due = due; answer = answer_of f 0 out }
-
--- reports and commands read no waypoint
-abbrev pub no_legs : Legs
-no_legs = record { here = origin; next = origin }
-
--- the flight, whether a report is due, and the answer after it
-unfoldable pub flight_step_of : FlightSupervisor → Bool → Bool → Legs → Request → FlightAnswered
-flight_step_of f opened due l r =
-    cond (eqb (sequence_refusal_of opened due (is_report r)) 0) (flight_accepted_of (flight_after f l r) (report_due_after (output_of f l r)) (output_of f l r))
-    (flight_refused_of f due (sequence_refusal_of opened due (is_report r)))
-
--- the state with this flight and these waypoints, a report due or not, and its other parts as they were
-abbrev pub with_flight : Supervisor → FlightSupervisor → List Point → Bool → Supervisor
-with_flight s f ps due = record { flight = f; waypoints = ps; opened = s.opened; report_due = due; totals = s.totals }
-
--- the state with this list of waypoints for the old one
-abbrev pub with_points_of : Supervisor → List Float → Supervisor
-with_points_of s l = with_flight s (with_mission s.flight (loaded_of l)) (loaded_points_of l) s.report_due
+-- ---- a tick, a report or a command: what it reads and leaves of the state, without the waypoints
 
 -- an accepted tick's answer
 abbrev pub is_tick_of : Output → Bool
@@ -291,24 +278,59 @@ is_tick_of (Ticks answer) = true
 is_tick_of Totals = false
 is_tick_of Record = false
 
--- the day totals after a tick, a report or a command that began in this mode and was answered so: a refused one ends in the mode it began in
-abbrev pub totals_beside_of : DayTotals → Mode → Answer → DayTotals
-totals_beside_of t began a = counted_of t (is_tick_of a.output) began a.mode
+-- a refusal keeps it
+unfoldable pub flown_refused_of : Flown → Refusal → FlownAnswered
+flown_refused_of w refusal = record { flown = w; answer = answer_of w.flight (Err refusal) }
 
--- the answer with the state's other parts as they were
-abbrev pub beside_of : Supervisor → FlightAnswered → Answered
-beside_of s a =
+-- an accepted one that leaves this flight and answers this: the day totals count it
+unfoldable pub flown_accepted_of : Flown → FlightSupervisor → Output → FlownAnswered
+flown_accepted_of w f out =
     record {
-      supervisor =
+      flown =
           record {
-            flight = a.flight;
-            waypoints = s.waypoints;
-            opened = s.opened;
-            report_due = a.report_due;
-            totals = totals_beside_of s.totals s.flight.fsm.mode a.answer;
+            flight = f;
+            opened = w.opened;
+            report_due = report_due_after out;
+            totals = counted_of w.totals (is_tick_of out) w.flight.fsm.mode f.fsm.mode;
           };
-      answer = a.answer;
+      answer = answer_of f (Ok out);
     }
+
+-- a call whose step may leave such a flight and output: refused by its sequence, or accepted with one of them
+abbrev pub InSequence : Flown → Bool → (FlightSupervisor × Output → Type 0) → FlownAnswered → Type 0
+InSequence w report Left a =
+    MatchOption (sequence_refusal_of w.opened w.report_due report)
+    ((left : FlightSupervisor × Output) × Left left × (a ≡ flown_accepted_of w left.0 left.1))
+    (λ e. a ≡ flown_refused_of w e)
+
+-- reports and commands read no waypoint
+abbrev pub no_legs : Legs
+no_legs = record { here = origin; next = origin }
+
+-- what is left, and the answer
+unfoldable pub flight_step_of : Flown → Legs → Request → FlownAnswered
+flight_step_of w l r =
+    option_map_or (flown_refused_of w) (sequence_refusal_of w.opened w.report_due (is_report r))
+    (flown_accepted_of w (flight_after w.flight l r) (output_of w.flight l r))
+
+-- what a state has of it, and the state with that for its own
+abbrev pub flown_of : Supervisor → Flown
+flown_of s = record { flight = s.flight; opened = s.opened; report_due = s.report_due; totals = s.totals }
+
+abbrev pub with_flown_of : Supervisor → Flown → Supervisor
+with_flown_of s w = record s { flight = w.flight; opened = w.opened; report_due = w.report_due; totals = w.totals }
+
+-- the answer with the waypoints as they were
+abbrev pub beside_of : Supervisor → FlownAnswered → Answered
+beside_of s a = record { supervisor = with_flown_of s a.flown; answer = a.answer }
+
+-- the state with this flight and these waypoints, a report due or not, and its other parts as they were
+abbrev pub with_flight : Supervisor → FlightSupervisor → List Point → Bool → Supervisor
+with_flight s f ps due = record s { flight = f; waypoints = ps; report_due = due }
+
+-- the state with this list of waypoints for the old one
+abbrev pub with_points_of : Supervisor → List Float → Supervisor
+with_points_of s l = with_flight s (with_mission s.flight (loaded_of l)) (loaded_points_of l) s.report_due
 
 -- "Fields 3 to 8 are 0 save for an accepted tick; motors off gives setpoint 0": landing, motors off, rearm, setpoint
 abbrev pub output_numbers : Output → List ℕ
@@ -319,10 +341,18 @@ output_numbers (Ticks MotorsOff) = 0 ∷ 1 ∷ 0 ∷ 0 ∷ 0 ∷ 0 ∷ []
 output_numbers (Ticks (Setpoint ned landing rearm)) =
     flag landing ∷ 0 ∷ flag rearm ∷ bits ned.x ∷ bits ned.y ∷ bits ned.z ∷ []
 
+-- those of an outcome
+abbrev pub outcome_numbers : Result Output Refusal → List ℕ
+outcome_numbers (Ok out) = output_numbers out
+outcome_numbers (Err refusal) = output_numbers Nothing
+
 -- "Answer, ten fields"
 abbrev pub answer_fields : ℕ
 answer_fields = 10
 
 -- "Answer, ten fields: refusal, mode, landing, motors off, rearm, setpoint (three), outstanding, first blocker (21 if none)"
 unfoldable pub numbers_of : Answer → List ℕ
-numbers_of a = a.refusal ∷ mode_number a.mode ∷ (output_numbers a.output ++ (a.outstanding ∷ blocker_number a.verdict ∷ []))
+numbers_of a =
+    outcome_number a.outcome
+    ∷ mode_number a.mode
+    ∷ (outcome_numbers a.outcome ++ (a.outstanding ∷ blocker_number a.blocker ∷ []))

@@ -1,6 +1,5 @@
 -- What demand 3 says of Land: a mode that is "Land, Disarmed or Terminated", and a tick that "goes through Land".
-use Rattle.std.specs.Prelude.{Bool, false, ◌||◌, List, [], ◌∷◌}
-use Rattle.std.proofs.Math.Option.{Option, none, some}
+use Rattle.std.specs.Prelude.{Bool, false, ◌||◌, List, [], ◌∷◌, Option, Some, None}
 use Rattle.relay_fsm.specs.declared.Mode.{Mode}
 use Rattle.relay_fsm.specs.declared.Mode.TheVariants.{Disarmed, Land, Terminated}
 use Rattle.relay_fsm.specs.declared.Event.{Event}
@@ -18,8 +17,8 @@ landed_of m = is_mode m Land || is_mode m Disarmed || is_mode m Terminated
 
 -- an event given to the mode machine in this mode, if any, led to Land
 abbrev pub led_to_land : Mode → Option Event → Bool
-led_to_land m none = false
-led_to_land m (some e) = is_mode (on_of m e in_flight_of) Land
+led_to_land m None = false
+led_to_land m (Some e) = is_mode (on_of m e in_flight_of) Land
 
 -- one of the events given led to Land
 abbrev pub any_led_to_land : List Given → Bool

@@ -1,43 +1,29 @@
 -- Document 01's table of refusals: their numbers, in the order in which they are tried. 0 is accepted.
-use Rattle.std.specs.Prelude.{ℕ, zero, suc}
+use Rattle.std.specs.Prelude.{ℕ, Result, Ok, Err}
+use Rattle.falcon_core.specs.declared.refusal.Refusal.{Refusal}
+use Rattle.falcon_core.specs.declared.refusal.Refusal.TheVariants.{ShortBuffer, NotALine, UnknownKind, WrongCount, OutOfRange, NoOpening, ReportDue, NoReportDue, Inadmissible}
 
--- "answer buffer under 110 bytes; nothing written"
-abbrev pub short_buffer_of : ℕ
-short_buffer_of = 9
+-- 9: "answer buffer under 110 bytes; nothing written"
+-- 2: "length 0, no multiple of 11, over 1,430, or a bad field"
+-- 3: "kind not 1..6"; U1: "Refusal 3 no longer fits a kind from the request on that takes lines of it"
+-- 4: "field count wrong; lent points not 3 each, zones not 4 each"
+-- 5: "event above 11, flag above 1, battery above 2, mask of 2^21 or more, absent volts or amps not 0"
+-- 1: "no opening yet"; from here on a refusal needs the state
+-- 6: "a report is due, and the call is no report or opening"
+-- 7: "a report, none due"
+-- 8: "a tried point inadmissible"
+abbrev pub refusal_number : Refusal → ℕ
+refusal_number ShortBuffer = 9
+refusal_number NotALine = 2
+refusal_number UnknownKind = 3
+refusal_number WrongCount = 4
+refusal_number OutOfRange = 5
+refusal_number NoOpening = 1
+refusal_number ReportDue = 6
+refusal_number NoReportDue = 7
+refusal_number Inadmissible = 8
 
--- "length 0, no multiple of 11, over 1,430, or a bad field"
-abbrev pub not_a_line : ℕ
-not_a_line = 2
-
--- "kind not 1..6"; U1: "Refusal 3 no longer fits a kind from the request on that takes lines of it"
-abbrev pub unknown_kind : ℕ
-unknown_kind = 3
-
--- "field count wrong; lent points not 3 each, zones not 4 each"
-abbrev pub wrong_count : ℕ
-wrong_count = 4
-
--- "event above 11, flag above 1, battery above 2, mask of 2^21 or more, absent volts or amps not 0"
-abbrev pub out_of_range : ℕ
-out_of_range = 5
-
--- "no opening yet"; from here on a refusal needs the state
-abbrev pub no_opening : ℕ
-no_opening = 1
-
--- "a report is due, and the call is no report or opening"
-abbrev pub report_due : ℕ
-report_due = 6
-
--- "a report, none due"
-abbrev pub no_report_due : ℕ
-no_report_due = 7
-
--- "a tried point inadmissible"
-abbrev pub inadmissible : ℕ
-inadmissible = 8
-
--- "They are tried in this order": a refusal, and where there is none the next
-abbrev pub or_else : ℕ → ℕ → ℕ
-or_else zero next = next
-or_else (suc n) next = suc n
+-- "0 accepted"
+abbrev pub outcome_number : {T : Type 0} → Result T Refusal → ℕ
+outcome_number (Ok x) = 0
+outcome_number (Err refusal) = refusal_number refusal

@@ -1,5 +1,5 @@
 -- What is true of every state that a list of calls leads to: as one test of the state, made of named tests, and as records.
-use Rattle.std.specs.Prelude.{ℕ, zero, suc, ◌-◌, ◌≤◌, ◌<◌, ◌≡◌, Bool, true, ◌&&◌, ◌||◌, List, [], ◌∷◌, ◌++◌, T, eqb, ltb, leb, length, get_or, set, Float}
+use Rattle.std.specs.Prelude.{ℕ, zero, suc, ◌-◌, ◌≤◌, ◌<◌, ◌≡◌, Bool, true, ◌&&◌, ◌||◌, List, [], ◌∷◌, ◌++◌, T, eqb, ltb, leb, length, get_or, Float}
 use Rattle.std.specs.Float.{nan, binary32}
 use Rattle.std.specs.Float.Ieee.{to_bits}
 use Rattle.relay_fsm.specs.declared.Mode.{Mode}
@@ -20,6 +20,7 @@ use Rattle.falcon_failsafe.specs.declared.flight.Opening.{Opening}
 use Rattle.falcon_guidance.specs.declared.state.Tick.{Tick}
 use Rattle.falcon_failsafe.specs.declared.flight.FlightSupervisor.{FlightSupervisor}
 use Rattle.falcon_core.specs.declared.supervisor.Supervisor.{Supervisor}
+unfoldable pub use Rattle.falcon_guidance.specs.Lent.{filled_of}
 use Rattle.falcon_guidance.specs.State.{origin, no_zone, nowhere, max_waypoints, max_keepout_zones}
 use Rattle.falcon_guidance.specs.Mission.{waypoint_admissible_of}
 use Rattle.falcon_guidance.specs.Zones.{no_place}
@@ -33,11 +34,6 @@ module _ {A : Type 0} where
   unfoldable pub first_of : (ℕ → A) → ℕ → List A
   first_of f zero = []
   first_of f (suc n) = first_of f n ++ (f n ∷ [])
-
-  -- a list with f 0, f 1 and so on in its first n places
-  unfoldable pub filled_of : (ℕ → A) → ℕ → List A → List A
-  filled_of f zero l = l
-  filled_of f (suc n) l = set (filled_of f n l) n (f n)
 
   -- `size` places, at most so many in use: what is in use is `Held`, every other place has z; d is what is read past the end
   pub record Tidy (Held : A → Type 0) (d z : A) (size : ℕ) (l : List A) (count : ℕ) : Type 0 where

@@ -1,8 +1,9 @@
 // The calls by lent values. Each takes the state and gives the state after it with its answer.
 ghost use Rattle.std.specs.Prelude.{◌≡◌};
-ghost use Rattle.falcon_core.specs.Calls.{opens, ticks, reports, commands, plans, points, zones, totals, saves, sequence_refusal_of, allowed_of, commanded_by, due_after_of, answer_of, refused_of, accepted_of};
-ghost use Rattle.falcon_core.specs.Calls.{step_of, told_of, flight_refused_of, flight_accepted_of, no_legs, flight_step_of, is_tick_of, totals_beside_of, beside_of, with_points_of, numbers_of};
+ghost use Rattle.falcon_core.specs.Calls.{opens, ticks, reports, commands, plans, points, zones, totals, saves, sequence_of, commanded_by, is_tick_of, report_due_after, answer_of, refused_of, settled_of};
+ghost use Rattle.falcon_core.specs.Calls.{step_of, told_of, InSequence, no_legs, flight_step_of, flown_of, with_flown_of, beside_of, with_points_of, numbers_of};
 
+use crate::refusal::Refusal;
 use crate::supervisor::Supervisor;
 use falcon_failsafe::failsafe::reported;
 use falcon_failsafe::flight::{FlightSupervisor, Opening};
@@ -13,8 +14,8 @@ use falcon_guidance::state::{Legs, Point, Tick, Zone};
 use falcon_guidance::zones::loaded_zones;
 use falcon_totals::DayTotals;
 use relay_fsm::{Event, Gates, Mode};
-use relay_math::{flag_number, to_bits};
-use relay_preflight::{CheckTable, TableVerdict, arm_check_table};
+use relay_math::to_bits;
+use relay_preflight::{CheckId, CheckTable, arm_check_table};
 
 // What an answer tells beside the mode and the checks: nothing, what a tick answers, or of the state after the call its totals or the whole.
 #[derive(Clone, Copy)]
@@ -28,11 +29,10 @@ pub enum Output {
 // The answer to a call.
 #[derive(Clone, Copy)]
 pub struct Answer {
-    pub refusal: u32,
+    pub outcome: Result<Output, Refusal>,
     pub mode: Mode,
-    pub output: Output,
     pub outstanding: u32,
-    pub verdict: TableVerdict,
+    pub blocker: Option<CheckId>,
 }
 
 // The state after a call, and the answer.
@@ -42,12 +42,36 @@ pub struct Answered {
     pub answer: Answer,
 }
 
-// What a tick, a report or a command leaves: the flight, whether a report is due, and the answer.
+// What ticks, reports and commands read and change: all of the state but its waypoints.
 #[derive(Clone, Copy)]
-pub struct FlightAnswered {
+pub struct Flown {
     pub flight: FlightSupervisor,
+    pub opened: bool,
     pub report_due: bool,
+    pub totals: DayTotals,
+}
+
+// What a tick, a report or a command leaves of the state, and the answer.
+#[derive(Clone, Copy)]
+pub struct FlownAnswered {
+    pub flown: Flown,
     pub answer: Answer,
+}
+
+impl Output {
+    // Whether it is a tick's.
+    fn is_tick(self) -> bool
+        ensures { result ≡ is_tick_of self }
+    {
+        matches!(self, Output::Ticks(_))
+    }
+
+    // A report is due after every tick that does not say motors off, and after nothing else.
+    fn report_due_after(self) -> bool
+        ensures { result ≡ report_due_after self }
+    {
+        matches!(self, Output::Ticks(TickAnswer::Setpoint { .. }))
+    }
 }
 
 impl Answer {
@@ -57,360 +81,295 @@ impl Answer {
     // The numbers of an answer line with the totals.
     pub const WITH_TOTALS: usize = Answer::FIELDS + DayTotals::FIELDS;
 
-    // The refusals, in the order in which they are tried; 0 is accepted.
-    pub const ACCEPTED: u32 = 0;
-    // The answer buffer is too short.
-    pub const SHORT_BUFFER: u32 = 9;
-    // Not a sheet line.
-    pub const NOT_A_LINE: u32 = 2;
-    // The kind is not 1..8.
-    pub const UNKNOWN_KIND: u32 = 3;
-    // A wrong field count; lent points not three each, or zones not four each.
-    pub const WRONG_COUNT: u32 = 4;
-    // An event, a flag, a battery number or a mask out of its range, or volts or amps where none are said.
-    pub const OUT_OF_RANGE: u32 = 5;
-    // No opening yet. From here on a refusal needs the state.
-    pub const NO_OPENING: u32 = 1;
-    // A report is due, and the call is no report or opening.
-    pub const REPORT_DUE: u32 = 6;
-    // A report, and none is due.
-    pub const NO_REPORT_DUE: u32 = 7;
-    // A tried point is inadmissible.
-    pub const INADMISSIBLE: u32 = 8;
-
-    // The ten numbers of an answer line.
+    // The ten numbers of an answer line: a named function and no From, which would not say of what.
+    #[tactic(auto, unfolding(crate::specs::Calls::numbers_of))]
     pub fn numbers(self) -> [u32; Answer::FIELDS]
         ensures { result ≡ numbers_of self }
     {
-        let mode = self.mode;
-        let verdict = self.verdict;
-        let output = self.output;
-        let m = mode.number();
+        let r = Refusal::outcome_number(&self.outcome);
+        let m = u32::from(self.mode);
         let o = self.outstanding;
-        let b = verdict.number();
-        match output {
-            Output::Nothing => [self.refusal, m, 0, 0, 0, 0, 0, 0, o, b],
-            Output::Totals => [self.refusal, m, 0, 0, 0, 0, 0, 0, o, b],
-            Output::Record => [self.refusal, m, 0, 0, 0, 0, 0, 0, o, b],
-            Output::Ticks(answer) => match answer {
-                TickAnswer::MotorsOff => [self.refusal, m, 0, 1, 0, 0, 0, 0, o, b],
-                TickAnswer::Setpoint {
-                    ned,
-                    landing,
-                    rearm,
-                } => [
-                    self.refusal,
-                    m,
-                    flag_number(landing),
-                    0,
-                    flag_number(rearm),
-                    to_bits(ned.x),
-                    to_bits(ned.y),
-                    to_bits(ned.z),
-                    o,
-                    b,
-                ],
-            },
+        let b = CheckId::blocker_number(self.blocker);
+        match self.outcome {
+            Ok(Output::Ticks(TickAnswer::MotorsOff)) => [r, m, 0, 1, 0, 0, 0, 0, o, b],
+            Ok(
+                Output::Ticks(
+                    TickAnswer::Setpoint {
+                        ned,
+                        landing,
+                        rearm,
+                    },
+                ),
+            ) => [
+                r,
+                m,
+                u32::from(landing),
+                0,
+                u32::from(rearm),
+                to_bits(ned.x),
+                to_bits(ned.y),
+                to_bits(ned.z),
+                o,
+                b,
+            ],
+            Ok(Output::Nothing | Output::Totals | Output::Record) | Err(_) => {
+                [r, m, 0, 0, 0, 0, 0, 0, o, b]
+            }
         }
     }
 }
 
 // The answer of a flight.
-fn answer_of(f: FlightSupervisor, refusal: u32, output: Output) -> Answer
-    ensures { result ≡ answer_of f refusal output }
+#[tactic(auto, unfolding(crate::specs::Calls::answer_of))]
+fn answer_of(f: FlightSupervisor, outcome: Result<Output, Refusal>) -> Answer
+    ensures { result ≡ answer_of f outcome }
 {
-    let fsm = f.fsm;
-    let mode = fsm.mode;
-    let table = f.check_table;
     Answer {
-        refusal,
-        mode,
-        output,
-        outstanding: table.outstanding(),
-        verdict: arm_check_table(table),
+        outcome,
+        mode: f.fsm.mode,
+        outstanding: f.check_table.outstanding(),
+        blocker: arm_check_table(f.check_table),
     }
 }
 
 // A refusal keeps the state.
-pub fn refused(s: Supervisor, refusal: u32) -> Answered
+#[tactic(auto, unfolding(crate::specs::Calls::refused_of))]
+pub fn refused(s: Supervisor, refusal: Refusal) -> Answered
     ensures { result ≡ refused_of s refusal }
 {
-    let a = answer_of(s.flight, refusal, Output::Nothing);
     Answered {
         supervisor: s,
-        answer: a,
+        answer: answer_of(s.flight, Err(refusal)),
     }
 }
 
-fn accepted(s: Supervisor, output: Output) -> Answered
-    ensures { result ≡ accepted_of s output }
+// The state after a call that began in this one, and its answer.
+#[tactic(auto, unfolding(crate::specs::Calls::accepted_of))]
+fn settled(before: Supervisor, after: Result<(Supervisor, Output), Refusal>) -> Answered
+    ensures { result ≡ settled_of before after }
 {
-    let a = answer_of(s.flight, Answer::ACCEPTED, output);
-    Answered {
-        supervisor: s,
-        answer: a,
+    match after {
+        Ok((supervisor, output)) => Answered {
+            supervisor,
+            answer: answer_of(supervisor.flight, Ok(output)),
+        },
+        Err(refusal) => refused(before, refusal),
     }
 }
 
-// A report is due after every tick that does not say motors off.
-fn due_after(answer: TickAnswer) -> bool
-    ensures { result ≡ due_after_of answer }
-{
-    match answer {
-        TickAnswer::MotorsOff => false,
-        TickAnswer::Setpoint {
-            ned: _,
-            landing: _,
-            rearm: _,
-        } => true,
-    }
-}
-
-// No check blocks arming.
-fn allowed(verdict: TableVerdict) -> bool
-    ensures { result ≡ allowed_of verdict }
-{
-    match verdict {
-        TableVerdict::Allowed => true,
-        TableVerdict::Blocked(_) => false,
-    }
-}
-
-// A command is handed to the mode machine.
+// A command is handed to the mode machine. Three arguments and no struct: `Supervisor::command`, which callers have, takes them so.
+#[tactic(auto, unfolding(crate::specs::Calls::commanded_by))]
 fn commanded(f: FlightSupervisor, ev: Event, level: bool, throttle_low: bool) -> FlightSupervisor
     ensures { result ≡ commanded_by f ev level throttle_low }
 {
-    let fsm = f.fsm;
-    let table = f.check_table;
     let gates = Gates {
         level,
         throttle_low,
         have_position: true,
-        prearm_ok: allowed(arm_check_table(table)),
+        prearm_ok: arm_check_table(f.check_table).is_none(),
     };
-    let after = fsm.on(ev, gates);
-    let mut next = f;
-    next.fsm = after;
-    next
+    FlightSupervisor {
+        fsm: f.fsm.on(ev, gates),
+        ..f
+    }
 }
 
-// 1, 6 and 7, of a call that is no opening: by whether there was an opening, whether a report is due, and whether the call is a report.
-fn sequence_refusal(opened: bool, due: bool, report: bool) -> u32
-    ensures { result ≡ sequence_refusal_of opened due report }
+// What refuses a call that is no opening in this place: by whether there was an opening, whether a report is due, and whether the call is a report.
+// Two flags and no `Flown`, which a call of the whole state would have to copy for them.
+#[tactic(auto, unfolding(crate::specs::Calls::sequence_refusal_of))]
+fn sequence(opened: bool, due: bool, report: bool) -> Result<(), Refusal>
+    ensures { result ≡ sequence_of opened due report }
 {
     if !opened {
-        return Answer::NO_OPENING;
+        return Err(Refusal::NoOpening);
     }
     if due & !report {
-        return Answer::REPORT_DUE;
+        return Err(Refusal::ReportDue);
     }
     if report & !due {
-        return Answer::NO_REPORT_DUE;
+        return Err(Refusal::NoReportDue);
     }
-    Answer::ACCEPTED
+    Ok(())
 }
 
-// A refusal keeps the flight, and whether a report is due.
-fn flight_refused(f: FlightSupervisor, due: bool, refusal: u32) -> FlightAnswered
-    ensures { result ≡ flight_refused_of f due refusal }
-{
-    let a = answer_of(f, refusal, Output::Nothing);
-    FlightAnswered {
-        flight: f,
-        report_due: due,
-        answer: a,
+impl Flown {
+    // In sequence, what the step leaves of the flight and answers, counted in the day totals; a refusal keeps the whole.
+    #[tactic(auto, unfolding(crate::specs::Calls::flown_refused_of, crate::specs::Calls::flown_accepted_of))]
+    fn in_sequence<F: FnOnce(FlightSupervisor) -> (FlightSupervisor, Output)>(
+        self,
+        report: bool,
+        step: F,
+    ) -> FlownAnswered
+        requires { F.IsAlwaysCallable step }
+        ensures { InSequence self report (F.post step self.flight) result }
+    {
+        if let Err(refusal) = sequence(self.opened, self.report_due, report) {
+            return FlownAnswered {
+                flown: self,
+                answer: answer_of(self.flight, Err(refusal)),
+            };
+        }
+        let (flight, output) = step(self.flight);
+        FlownAnswered {
+            flown: Flown {
+                flight,
+                opened: self.opened,
+                report_due: output.report_due_after(),
+                totals: self
+                    .totals
+                    .counted(output.is_tick(), self.flight.fsm.mode, flight.fsm.mode),
+            },
+            answer: answer_of(flight, Ok(output)),
+        }
     }
-}
 
-// An accepted tick, report or command.
-fn flight_accepted(f: FlightSupervisor, due: bool, output: Output) -> FlightAnswered
-    ensures { result ≡ flight_accepted_of f due output }
-{
-    let a = answer_of(f, Answer::ACCEPTED, output);
-    FlightAnswered {
-        flight: f,
-        report_due: due,
-        answer: a,
+    // One tick of the flight core, with the waypoints of the active leg and of the next.
+    #[tactic(auto, unfolding(crate::specs::Calls::flight_step_of, crate::specs::Calls::flight_after, crate::specs::Calls::output_of))]
+    pub fn tick(self, legs: Legs, t: Tick) -> FlownAnswered
+        ensures { result ≡ flight_step_of self legs (ticks t) }
+    {
+        self.in_sequence(false, |f| {
+            let ticked = tick(f, legs, t);
+            (ticked.flight, Output::Ticks(ticked.answer))
+        })
     }
-}
 
-// One tick of the flight core, from the flight and the waypoints of the active leg and of the next.
-pub fn flight_tick(
-    f: FlightSupervisor,
-    opened: bool,
-    due: bool,
-    legs: Legs,
-    t: Tick,
-) -> FlightAnswered
-    ensures { result ≡ flight_step_of f opened due legs (ticks t) }
-{
-    let refusal = sequence_refusal(opened, due, false);
-    if refusal != Answer::ACCEPTED {
-        return flight_refused(f, due, refusal);
+    // Whether a motor failed while the core ran the latest tick.
+    #[tactic(auto, unfolding(crate::specs::Calls::flight_step_of, crate::specs::Calls::flight_after, crate::specs::Calls::output_of))]
+    pub fn report(self, failed: bool) -> FlownAnswered
+        ensures { result ≡ flight_step_of self no_legs (reports failed) }
+    {
+        self.in_sequence(true, |f| (reported(f, failed), Output::Nothing))
     }
-    let ticked = tick(f, legs, t);
-    let flight = ticked.flight;
-    let answer = ticked.answer;
-    flight_accepted(flight, due_after(answer), Output::Ticks(answer))
-}
 
-// Whether a motor failed while the core ran the latest tick, from the flight.
-pub fn flight_report(f: FlightSupervisor, opened: bool, due: bool, failed: bool) -> FlightAnswered
-    ensures { result ≡ flight_step_of f opened due no_legs (reports failed) }
-{
-    let refusal = sequence_refusal(opened, due, true);
-    if refusal != Answer::ACCEPTED {
-        return flight_refused(f, due, refusal);
-    }
-    flight_accepted(reported(f, failed), false, Output::Nothing)
-}
-
-// A command of the pilot, from the flight.
-pub fn flight_command(
-    f: FlightSupervisor,
-    opened: bool,
-    due: bool,
-    ev: Event,
-    level: bool,
-    throttle_low: bool,
-) -> FlightAnswered
-    ensures { result ≡ flight_step_of f opened due no_legs (commands ev level throttle_low) }
-{
-    let refusal = sequence_refusal(opened, due, false);
-    if refusal != Answer::ACCEPTED {
-        return flight_refused(f, due, refusal);
-    }
-    flight_accepted(
-        commanded(f, ev, level, throttle_low),
-        false,
-        Output::Nothing,
-    )
-}
-
-// Whether an answer is an accepted tick's.
-fn is_tick(output: Output) -> bool
-    ensures { result ≡ is_tick_of output }
-{
-    match output {
-        Output::Nothing => false,
-        Output::Ticks(_) => true,
-        Output::Totals => false,
-        Output::Record => false,
-    }
-}
-
-// The totals after a tick, a report or a command that began in this mode and was answered so.
-pub fn totals_beside(t: DayTotals, began: Mode, a: Answer) -> DayTotals
-    ensures { result ≡ totals_beside_of t began a }
-{
-    let ended = a.mode;
-    let output = a.output;
-    t.counted(is_tick(output), began, ended)
-}
-
-// What a tick, a report or a command leaves, with the state's other parts as they were.
-fn beside(s: Supervisor, told: FlightAnswered) -> Answered
-    ensures { result ≡ beside_of s told }
-{
-    let before = s.flight;
-    let fsm = before.fsm;
-    let began = fsm.mode;
-    let flight = told.flight;
-    let answer = told.answer;
-    let counted = s.totals;
-    let totals = totals_beside(counted, began, answer);
-    let mut next = s;
-    next.flight = flight;
-    next.report_due = told.report_due;
-    next.totals = totals;
-    Answered {
-        supervisor: next,
-        answer,
+    // A command of the pilot.
+    #[tactic(auto, unfolding(crate::specs::Calls::flight_step_of, crate::specs::Calls::flight_after, crate::specs::Calls::output_of))]
+    pub fn command(self, ev: Event, level: bool, throttle_low: bool) -> FlownAnswered
+        ensures { result ≡ flight_step_of self no_legs (commands ev level throttle_low) }
+    {
+        self.in_sequence(false, |f| {
+            (commanded(f, ev, level, throttle_low), Output::Nothing)
+        })
     }
 }
 
 // A call that changes nothing, if it is in sequence.
+#[tactic(auto, unfolding(crate::specs::Calls::told_of))]
 fn told(s: Supervisor, output: Output) -> Answered
     ensures { result ≡ told_of s output }
 {
-    let refusal = sequence_refusal(s.opened, s.report_due, false);
-    if refusal != Answer::ACCEPTED {
-        return refused(s, refusal);
-    }
-    accepted(s, output)
+    settled(
+        s,
+        sequence(s.opened, s.report_due, false).map(|_| (s, output)),
+    )
 }
 
 // The state with this list of waypoints for the old one.
 fn with_points(s: Supervisor, lent: &[f32]) -> Supervisor
     ensures { result ≡ with_points_of s lent.now }
 {
-    let mission = loaded(lent);
-    let waypoints = loaded_points(lent);
-    let mut flight = s.flight;
-    flight.mission = mission;
-    let mut next = s;
-    next.flight = flight;
-    next.waypoints = waypoints;
-    next
+    Supervisor {
+        flight: FlightSupervisor {
+            mission: loaded(lent),
+            ..s.flight
+        },
+        waypoints: loaded_points(lent),
+        ..s
+    }
 }
 
 impl Supervisor {
+    // What ticks, reports and commands read and change.
+    pub fn flown(self) -> Flown
+        ensures { result ≡ flown_of self }
+    {
+        Flown {
+            flight: self.flight,
+            opened: self.opened,
+            report_due: self.report_due,
+            totals: self.totals,
+        }
+    }
+
+    // The state with these parts for its own.
+    pub fn with_flown(self, flown: Flown) -> Supervisor
+        ensures { result ≡ with_flown_of self flown }
+    {
+        Supervisor {
+            flight: flown.flight,
+            opened: flown.opened,
+            report_due: flown.report_due,
+            totals: flown.totals,
+            ..self
+        }
+    }
+
+    // What a tick, a report or a command leaves, with the waypoints as they were.
+    fn beside(self, told: FlownAnswered) -> Answered
+        ensures { result ≡ beside_of self told }
+    {
+        Answered {
+            supervisor: self.with_flown(told.flown),
+            answer: told.answer,
+        }
+    }
+
     // Opens the supervisor anew; taken at any time.
+    #[tactic(auto, unfolding(crate::specs::Calls::step_of, crate::specs::Calls::refusal_of, crate::specs::Calls::shape_refusal, crate::specs::Calls::state_refusal, crate::specs::Calls::after_of, crate::specs::Calls::flight_after, crate::specs::Calls::waypoints_after, crate::specs::Calls::start_of, crate::specs::Calls::start_points, crate::specs::Calls::output_of, crate::specs::Calls::totals_after))]
     pub fn opening(self, o: Opening) -> Answered
         ensures { result ≡ step_of self (opens o) }
     {
         if (o.required >= CheckTable::MASK_LIMIT) | (o.passed >= CheckTable::MASK_LIMIT) {
-            return refused(self, Answer::OUT_OF_RANGE);
+            return refused(self, Refusal::OutOfRange);
         }
-        let waypoints = no_points();
         let next = Supervisor {
             flight: FlightSupervisor::opened(o),
-            waypoints,
+            waypoints: no_points(),
             opened: true,
             report_due: false,
             totals: DayTotals::new(),
         };
-        accepted(next, Output::Nothing)
+        settled(self, Ok((next, Output::Nothing)))
     }
 
     // One tick of the flight core.
+    #[tactic(auto, using(crate::proofs::FlightCalls::tick_beside))]
     pub fn tick(self, t: Tick) -> Answered
         ensures { result ≡ step_of self (ticks t) }
     {
-        let config = self.flight.config;
-        let mission = self.flight.mission;
-        let waypoints = self.waypoints;
-        let told = flight_tick(
-            self.flight,
-            self.opened,
-            self.report_due,
-            legs(config, waypoints, mission),
-            t,
-        );
-        beside(self, told)
+        let legs = legs(self.flight.config, self.waypoints, self.flight.mission);
+        self.beside(self.flown().tick(legs, t))
     }
 
     // Whether a motor failed while the core ran the latest tick.
+    #[tactic(auto, using(crate::proofs::FlightCalls::report_beside))]
     pub fn report(self, failed: bool) -> Answered
         ensures { result ≡ step_of self (reports failed) }
     {
-        let told = flight_report(self.flight, self.opened, self.report_due, failed);
-        beside(self, told)
+        self.beside(self.flown().report(failed))
     }
 
     // A command of the pilot.
+    #[tactic(auto, using(crate::proofs::FlightCalls::command_beside))]
     pub fn command(self, ev: Event, level: bool, throttle_low: bool) -> Answered
         ensures { result ≡ step_of self (commands ev level throttle_low) }
     {
-        let told = flight_command(
-            self.flight,
-            self.opened,
-            self.report_due,
-            ev,
-            level,
-            throttle_low,
-        );
-        beside(self, told)
+        self.beside(self.flown().command(ev, level, throttle_low))
+    }
+
+    // The state after a new list of waypoints, or why the list is refused.
+    #[tactic(auto, using(crate::proofs::Answers::planned_step), unfolding(crate::specs::Calls::planned_of))]
+    fn with_mission(self, lent: &[f32]) -> Result<(Supervisor, Output), Refusal>
+        ensures { settled_of self result ≡ step_of self (plans (points lent.now)) }
+    {
+        if lent.len() % Point::NUMBERS != 0 {
+            return Err(Refusal::WrongCount);
+        }
+        sequence(self.opened, self.report_due, false)?;
+        if !tried_admissible(self.flight.config, lent) {
+            return Err(Refusal::Inadmissible);
+        }
+        Ok((with_points(self, lent), Output::Nothing))
     }
 
     // A new list of waypoints, three numbers each; one bad point refuses the list and the old one stays.
@@ -418,19 +377,26 @@ impl Supervisor {
         ensures answered { result ≡ step_of self (plans (points lent.now)) }
         ensures unchanged { lent.exit.now ≡ lent.entry.now }
     {
-        if lent.len() % Point::NUMBERS != 0 {
-            return refused(self, Answer::WRONG_COUNT);
+        settled(self, self.with_mission(lent))
+    }
+
+    // The state after new keep-out zones, or why they are refused.
+    #[tactic(auto, using(crate::proofs::Answers::planned_step), unfolding(crate::specs::Calls::planned_of))]
+    fn with_keepout(self, lent: &[f32]) -> Result<(Supervisor, Output), Refusal>
+        ensures { settled_of self result ≡ step_of self (plans (zones lent.now)) }
+    {
+        if lent.len() % Zone::NUMBERS != 0 {
+            return Err(Refusal::WrongCount);
         }
-        let refusal = sequence_refusal(self.opened, self.report_due, false);
-        if refusal != Answer::ACCEPTED {
-            return refused(self, refusal);
-        }
-        let config = self.flight.config;
-        let next = with_points(self, lent);
-        if !tried_admissible(config, lent) {
-            return refused(self, Answer::INADMISSIBLE);
-        }
-        accepted(next, Output::Nothing)
+        sequence(self.opened, self.report_due, false)?;
+        let next = Supervisor {
+            flight: FlightSupervisor {
+                zones: loaded_zones(lent),
+                ..self.flight
+            },
+            ..self
+        };
+        Ok((next, Output::Nothing))
     }
 
     // The keep-out zones, four numbers each: the first eight are kept, untested.
@@ -438,22 +404,11 @@ impl Supervisor {
         ensures answered { result ≡ step_of self (plans (zones lent.now)) }
         ensures unchanged { lent.exit.now ≡ lent.entry.now }
     {
-        if lent.len() % Zone::NUMBERS != 0 {
-            return refused(self, Answer::WRONG_COUNT);
-        }
-        let refusal = sequence_refusal(self.opened, self.report_due, false);
-        if refusal != Answer::ACCEPTED {
-            return refused(self, refusal);
-        }
-        let loaded = loaded_zones(lent);
-        let mut flight = self.flight;
-        flight.zones = loaded;
-        let mut next = self;
-        next.flight = flight;
-        accepted(next, Output::Nothing)
+        settled(self, self.with_keepout(lent))
     }
 
     // The day totals, which the answer's state has.
+    #[tactic(auto, using(crate::proofs::Answers::planned_step), unfolding(crate::specs::Calls::told_of, crate::specs::Calls::planned_of))]
     pub fn totals(self) -> Answered
         ensures { result ≡ step_of self (plans totals) }
     {
@@ -461,6 +416,7 @@ impl Supervisor {
     }
 
     // The whole state, which is the answer's.
+    #[tactic(auto, using(crate::proofs::Answers::planned_step), unfolding(crate::specs::Calls::told_of, crate::specs::Calls::planned_of))]
     pub fn save(self) -> Answered
         ensures { result ≡ step_of self (plans saves) }
     {

@@ -2,4 +2,5 @@
 #![tactic(auto)]
 
 pub mod calls;
+pub mod refusal;
 pub mod supervisor;

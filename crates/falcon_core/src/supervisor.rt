@@ -8,6 +8,7 @@ use falcon_guidance::state::Point;
 use falcon_totals::DayTotals;
 
 // The supervisor: the flight, the waypoints, whether there was an opening, whether a report is due, and the day totals. Unused places hold the origin.
+// No Option of the flight: an answer before an opening has its mode and checks too.
 #[derive(Clone, Copy)]
 pub struct Supervisor {
     pub flight: FlightSupervisor,
@@ -19,22 +20,21 @@ pub struct Supervisor {
 
 impl Supervisor {
     // The state with no opening.
+    #[tactic(auto, unfolding(crate::specs::Supervisor::unopened))]
     pub fn new() -> Supervisor
         ensures { result ≡ unopened }
     {
-        let flight = FlightSupervisor::opened(Opening {
-            home: Point::origin(),
-            fence_radius: 0.0,
-            cruise_alt: 0.0,
-            low_batt_v: 0.0,
-            required: 0,
-            passed: 0,
-            calibration_configured: false,
-        });
-        let waypoints = no_points();
         Supervisor {
-            flight,
-            waypoints,
+            flight: FlightSupervisor::opened(Opening {
+                home: Point::origin(),
+                fence_radius: 0.0,
+                cruise_alt: 0.0,
+                low_batt_v: 0.0,
+                required: 0,
+                passed: 0,
+                calibration_configured: false,
+            }),
+            waypoints: no_points(),
             opened: false,
             report_due: false,
             totals: DayTotals::new(),

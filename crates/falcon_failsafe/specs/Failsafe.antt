@@ -1,7 +1,6 @@
 -- The failsafe paragraphs of `step`: breach, attitude runaway, high wind, and the report of a failed motor.
 -- Each decides by the mode and by tests of the tick whether an event is handed to the mode machine.
-use Rattle.std.specs.Prelude.{ℕ, Bool, true, false, cond, not, ◌&&◌, ◌||◌, ltb, leb, Float}
-use Rattle.std.proofs.Math.Option.{Option, none, some}
+use Rattle.std.specs.Prelude.{ℕ, Bool, true, false, cond, not, ◌&&◌, ◌||◌, ltb, leb, Float, Option, Some, None, is_some}
 use Rattle.std.specs.Float.{binary32}
 use Rattle.std.specs.Float.Ieee.{of_bits, lt, le}
 use Rattle.relay_math.specs.Small.{saturating_add_of}
@@ -28,15 +27,14 @@ in_flight_of = record { level = true; throttle_low = true; have_position = true;
 abbrev pub without_position_of : Gates
 without_position_of = record { level = true; throttle_low = true; have_position = false; prearm_ok = true }
 
+-- the mode after an event that is given at these gates, if any
+abbrev pub mode_given_of : Mode → Option Event → Gates → Mode
+mode_given_of m None g = m
+mode_given_of m (Some e) g = on_of m e g
+
 -- the mode after the event that a paragraph of `step` gives the mode machine, if any
 abbrev pub mode_after : Mode → Option Event → Mode
-mode_after m none = m
-mode_after m (some e) = on_of m e in_flight_of
-
--- the event is given
-abbrev pub given : Option Event → Bool
-given none = false
-given (some e) = true
+mode_after m e = mode_given_of m e in_flight_of
 
 -- "latch cleared if Disarmed"
 abbrev pub cleared_latch : Mode → Bool → Bool
@@ -47,8 +45,7 @@ cleared_of f = with_mode f f.fsm.mode (cleared_latch f.fsm.mode f.rtl_latched)
 
 -- a `Failsafe` given to the mode machine sets the latch
 abbrev pub failsafed_in : FailsafeState → Option Event → FailsafeState
-failsafed_in s e =
-    record { mode = mode_after s.mode e; counts = s.counts; rtl_latched = given e || s.rtl_latched }
+failsafed_in s e = record s { mode = mode_after s.mode e; rtl_latched = is_some e || s.rtl_latched }
 
 abbrev pub failsafed : FlightSupervisor → Option Event → FlightSupervisor
 failsafed f e = with_failsafes f (failsafed_in (failsafe_state_of f) e)
@@ -69,7 +66,7 @@ abbrev pub breach_fails : Mode → Bool → Bool → Bool
 breach_fails m breach critical = is_airborne_of m && ltb (rank_of m) (wanted_rank critical) && breach
 
 abbrev pub breach_event : Mode → Bool → Bool → Option Event
-breach_event m breach critical = cond (breach_fails m breach critical) (some Failsafe) none
+breach_event m breach critical = cond (breach_fails m breach critical) (Some Failsafe) None
 
 unfoldable pub breach_gives : FlightSupervisor → Tick → Option Event
 breach_gives f t = breach_event f.fsm.mode (breach_of f t) f.battery.state.critical
@@ -101,7 +98,7 @@ unfoldable pub runaway_enough : ℕ → Bool
 runaway_enough n = leb tilt_runaway_cycles n
 
 abbrev pub runaway_event : Mode → Bool → Bool → Option Event
-runaway_event m tilted enough = cond (is_airborne_of m && tilted && enough) (some Terminate) none
+runaway_event m tilted enough = cond (is_airborne_of m && tilted && enough) (Some Terminate) None
 
 unfoldable pub runaway_counted : FlightSupervisor → Tick → ℕ
 runaway_counted f t = runaway_count_of f.fsm.mode (tilted_of t) f.counts.runaway_count
@@ -111,12 +108,7 @@ runaway_gives f t = runaway_event f.fsm.mode (tilted_of t) (runaway_enough (runa
 
 -- this count and this event
 abbrev pub terminated_in : FailsafeState → ℕ → Option Event → FailsafeState
-terminated_in s n e =
-    record {
-      mode = mode_after s.mode e;
-      counts = record { runaway_count = n; wind_count = s.counts.wind_count };
-      rtl_latched = s.rtl_latched;
-    }
+terminated_in s n e = record s { mode = mode_after s.mode e; counts = record s.counts { runaway_count = n } }
 
 -- the runaway paragraph, over what it changes and over the flight
 unfoldable pub runaway_in : FailsafeState → Bool → FailsafeState
@@ -160,7 +152,7 @@ abbrev pub wind_fails : Mode → Bool → Bool → Bool
 wind_fails m gusty enough = windy_in m gusty && (enough && ltb (rank_of m) 2)
 
 abbrev pub wind_event : Mode → Bool → Bool → Option Event
-wind_event m gusty enough = cond (wind_fails m gusty enough) (some Failsafe) none
+wind_event m gusty enough = cond (wind_fails m gusty enough) (Some Failsafe) None
 
 unfoldable pub wind_counted : FlightSupervisor → Tick → ℕ
 wind_counted f t = wind_count_of f.fsm.mode (gusty_of t) f.counts.wind_count
@@ -170,12 +162,7 @@ wind_gives f t = wind_event f.fsm.mode (gusty_of t) (wind_enough (wind_counted f
 
 -- with this count of windy ticks
 abbrev pub with_wind : FailsafeState → ℕ → FailsafeState
-with_wind s n =
-    record {
-      mode = s.mode;
-      counts = record { runaway_count = s.counts.runaway_count; wind_count = n };
-      rtl_latched = s.rtl_latched;
-    }
+with_wind s n = record s { counts = record s.counts { wind_count = n } }
 
 -- the wind paragraph, over what it changes and over the flight
 unfoldable pub wind_in : FailsafeState → Bool → FailsafeState

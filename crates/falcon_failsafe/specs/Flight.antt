@@ -47,19 +47,7 @@ opened_of o =
 
 -- the flight with this mode and this latch
 abbrev pub with_mode : FlightSupervisor → Mode → Bool → FlightSupervisor
-with_mode f m latched =
-    record {
-      config = f.config;
-      fsm = record { mode = m };
-      battery = f.battery;
-      mission = f.mission;
-      zones = f.zones;
-      hold = f.hold;
-      counts = f.counts;
-      check_table = f.check_table;
-      rtl_latched = latched;
-      motors_were_off = f.motors_were_off;
-    }
+with_mode f m latched = record f { fsm = record { mode = m }; rtl_latched = latched }
 
 -- what the failsafes change
 abbrev pub failsafe_state_of : FlightSupervisor → FailsafeState
@@ -67,112 +55,28 @@ failsafe_state_of f = record { mode = f.fsm.mode; counts = f.counts; rtl_latched
 
 -- the flight with what the failsafes change
 abbrev pub with_failsafes : FlightSupervisor → FailsafeState → FlightSupervisor
-with_failsafes f s =
-    record {
-      config = f.config;
-      fsm = record { mode = s.mode };
-      battery = f.battery;
-      mission = f.mission;
-      zones = f.zones;
-      hold = f.hold;
-      counts = s.counts;
-      check_table = f.check_table;
-      rtl_latched = s.rtl_latched;
-      motors_were_off = f.motors_were_off;
-    }
+with_failsafes f s = record f { fsm = record { mode = s.mode }; counts = s.counts; rtl_latched = s.rtl_latched }
 
 -- the flight with this battery
 abbrev pub with_battery : FlightSupervisor → Battery → FlightSupervisor
-with_battery f b =
-    record {
-      config = f.config;
-      fsm = f.fsm;
-      battery = b;
-      mission = f.mission;
-      zones = f.zones;
-      hold = f.hold;
-      counts = f.counts;
-      check_table = f.check_table;
-      rtl_latched = f.rtl_latched;
-      motors_were_off = f.motors_were_off;
-    }
+with_battery f b = record f { battery = b }
 
 -- the flight with this check table
 abbrev pub with_table : FlightSupervisor → CheckTable → FlightSupervisor
-with_table f k =
-    record {
-      config = f.config;
-      fsm = f.fsm;
-      battery = f.battery;
-      mission = f.mission;
-      zones = f.zones;
-      hold = f.hold;
-      counts = f.counts;
-      check_table = k;
-      rtl_latched = f.rtl_latched;
-      motors_were_off = f.motors_were_off;
-    }
+with_table f k = record f { check_table = k }
 
 -- the flight with this mission
 abbrev pub with_mission : FlightSupervisor → Mission → FlightSupervisor
-with_mission f m =
-    record {
-      config = f.config;
-      fsm = f.fsm;
-      battery = f.battery;
-      mission = m;
-      zones = f.zones;
-      hold = f.hold;
-      counts = f.counts;
-      check_table = f.check_table;
-      rtl_latched = f.rtl_latched;
-      motors_were_off = f.motors_were_off;
-    }
+with_mission f m = record f { mission = m }
 
 -- the flight with this hold
 abbrev pub with_hold : FlightSupervisor → Hold → FlightSupervisor
-with_hold f h =
-    record {
-      config = f.config;
-      fsm = f.fsm;
-      battery = f.battery;
-      mission = f.mission;
-      zones = f.zones;
-      hold = h;
-      counts = f.counts;
-      check_table = f.check_table;
-      rtl_latched = f.rtl_latched;
-      motors_were_off = f.motors_were_off;
-    }
+with_hold f h = record f { hold = h }
 
 -- the flight with the motors off or on
 abbrev pub with_motors : FlightSupervisor → Bool → FlightSupervisor
-with_motors f off =
-    record {
-      config = f.config;
-      fsm = f.fsm;
-      battery = f.battery;
-      mission = f.mission;
-      zones = f.zones;
-      hold = f.hold;
-      counts = f.counts;
-      check_table = f.check_table;
-      rtl_latched = f.rtl_latched;
-      motors_were_off = off;
-    }
+with_motors f off = record f { motors_were_off = off }
 
 -- the flight with these zones
 abbrev pub with_zones : FlightSupervisor → Zones → FlightSupervisor
-with_zones f z =
-    record {
-      config = f.config;
-      fsm = f.fsm;
-      battery = f.battery;
-      mission = f.mission;
-      zones = z;
-      hold = f.hold;
-      counts = f.counts;
-      check_table = f.check_table;
-      rtl_latched = f.rtl_latched;
-      motors_were_off = f.motors_were_off;
-    }
+with_zones f z = record f { zones = z }

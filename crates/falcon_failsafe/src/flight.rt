@@ -51,26 +51,18 @@ pub struct Opening {
 
 impl FlightSupervisor {
     // The flight as an opening leaves it: Disarmed, no points, no zones, nothing read.
+    #[tactic(auto, unfolding(crate::specs::Flight::opened_of))]
     pub fn opened(o: Opening) -> FlightSupervisor
         ensures { result ≡ opened_of o }
     {
-        let home = o.home;
-        let config = Config {
-            home,
-            fence_radius: o.fence_radius,
-            cruise_alt: o.cruise_alt,
-            low_batt_v: o.low_batt_v,
-            calibration_configured: o.calibration_configured,
-        };
-        let zone = Zone::none();
-        let places = [zone; Zone::MAX_KEEPOUT_ZONES];
-        let hold_xy = Horizontal {
-            x: o.home.x,
-            y: o.home.y,
-        };
-        let masks = CheckTable::new(o.required, o.passed);
         FlightSupervisor {
-            config,
+            config: Config {
+                home: o.home,
+                fence_radius: o.fence_radius,
+                cruise_alt: o.cruise_alt,
+                low_batt_v: o.low_batt_v,
+                calibration_configured: o.calibration_configured,
+            },
             fsm: FlightFsm::new(),
             battery: Battery::new(BattConfig::for_opening_volts(o.low_batt_v)),
             mission: Mission {
@@ -78,11 +70,14 @@ impl FlightSupervisor {
                 wp_index: 0,
             },
             zones: Zones {
-                zones: places,
+                zones: [Zone::none(); Zone::MAX_KEEPOUT_ZONES],
                 zone_count: 0,
             },
             hold: Hold {
-                hold_xy,
+                hold_xy: Horizontal {
+                    x: o.home.x,
+                    y: o.home.y,
+                },
                 hold_regime: false,
                 hold_braking: false,
                 brake_s: 0.0,
@@ -92,7 +87,7 @@ impl FlightSupervisor {
                 runaway_count: 0,
                 wind_count: 0,
             },
-            check_table: masks.legacy_passed(),
+            check_table: CheckTable::new(o.required, o.passed).legacy_passed(),
             rtl_latched: false,
             motors_were_off: true,
         }

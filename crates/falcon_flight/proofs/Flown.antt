@@ -1,11 +1,10 @@
 -- The tick that is given two waypoints is the tick over the whole list: where the leg moves on, the next one is the active leg's.
 use Prim.Native.Nat.{◌+◌}
 use native.Mathlib.Omega.{arith}
-use borrow.Author.Tests.{eq-eqb, ne_eqb}
-use mathlib.Core.Bool.{Bool, true, false, cond, ◌&&◌}
+use Rattle.std.proofs.lemmas.Bool.Decides.{nat_tests}
+use mathlib.Core.Bool.{Bool, cond, ◌&&◌}
 use mathlib.Core.List.{List}
-use mathlib.Core.Path.{◌≡◌, refl, ap}
-use lib.Dec.{eqb}
+use mathlib.Core.Path.{◌≡◌, ap}
 use Rattle.relay_fsm.specs.declared.Mode.TheVariants.{Mission as InMission}
 use Rattle.relay_fsm.specs.Mode.{is_mode}
 use Rattle.falcon_guidance.specs.declared.state.Point.{Point}
@@ -24,8 +23,7 @@ module _ (c : Config) (ps : List Point) (m : Mission) where
   moved : (on : Bool) → waypoint_after_of (legs_of c ps m) m.wp_index (cond on (m.wp_index + 1) m.wp_index)
       ≡ leg_waypoint_of c ps m.wp_count (cond on (m.wp_index + 1) m.wp_index)
   unfolding legs_of current_waypoint_of
-  moved true = let i = m.wp_index in let e : eqb i (i + 1) ≡ false = ne_eqb i (i + 1) (λ q. omega arith) in rw e
-  moved false = let i = m.wp_index in let e : eqb i i ≡ true = eq-eqb i i refl in rw e
+  moved on = grind (arith, nat_tests)
 
 module _ (c : Config) (ps : List Point) (f : FlightSupervisor) (l : Legs) (t : Tick) where
   -- the waypoint after the milestone is the active leg's of the whole list

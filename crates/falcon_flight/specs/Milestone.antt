@@ -1,6 +1,5 @@
 -- The milestone paragraph of `step`: altitude, home and ground reached, and the mission's legs.
-use Rattle.std.specs.Prelude.{ℕ, ◌+◌, Bool, cond, ◌&&◌, ltb, Float}
-use Rattle.std.proofs.Math.Option.{Option, none, some}
+use Rattle.std.specs.Prelude.{ℕ, ◌+◌, Bool, cond, ◌&&◌, ltb, Float, Option, Some, None}
 use Rattle.std.specs.Float.{binary32}
 use Rattle.std.specs.Float.Ieee.{of_bits, add, sub, mul, lt}
 use Rattle.relay_math.specs.Root.{root}
@@ -76,14 +75,14 @@ more_of m = ltb (m.wp_index + 1) m.wp_count
 
 -- what the milestone of the mode gives the mode machine
 abbrev pub milestone_event : Mode → Bool → Bool → Bool → Bool → Bool → Option Event
-milestone_event Disarmed high home low arrived more = none
-milestone_event Armed high home low arrived more = none
-milestone_event Takeoff high home low arrived more = cond high (some ReachedAltitude) none
-milestone_event Loiter high home low arrived more = none
-milestone_event Mission high home low arrived more = cond arrived (cond more none (some RequestRtl)) none
-milestone_event Land high home low arrived more = cond low (some Touchdown) none
-milestone_event Rtl high home low arrived more = cond home (some ReachedHome) none
-milestone_event Terminated high home low arrived more = none
+milestone_event Disarmed high home low arrived more = None
+milestone_event Armed high home low arrived more = None
+milestone_event Takeoff high home low arrived more = cond high (Some ReachedAltitude) None
+milestone_event Loiter high home low arrived more = None
+milestone_event Mission high home low arrived more = cond arrived (cond more None (Some RequestRtl)) None
+milestone_event Land high home low arrived more = cond low (Some Touchdown) None
+milestone_event Rtl high home low arrived more = cond home (Some ReachedHome) None
+milestone_event Terminated high home low arrived more = None
 
 unfoldable pub milestone_gives : FlightSupervisor → Legs → Tick → Option Event
 milestone_gives f l t =
@@ -110,13 +109,12 @@ milestone_in m c here s home p =
 unfoldable pub advanced_of : FlightSupervisor → FlightSupervisor
 advanced_of f =
     cond (more_of f.mission)
-    (with_mission f
-    (record { wp_count = f.mission.wp_count; wp_index = f.mission.wp_index + 1 }))
+    (with_mission f (record f.mission { wp_index = f.mission.wp_index + 1 }))
     (with_mode f (on_of f.fsm.mode RequestRtl in_flight_of) f.rtl_latched)
 
 -- the milestone paragraph
 unfoldable pub milestone_of : FlightSupervisor → Legs → Tick → FlightSupervisor
 milestone_of f l t =
     with_mode
-    (with_mission f (record { wp_count = f.mission.wp_count; wp_index = leg_of f l t }))
+    (with_mission f (record f.mission { wp_index = leg_of f l t }))
     (mode_after f.fsm.mode (milestone_gives f l t)) f.rtl_latched

@@ -1,7 +1,6 @@
 -- `step` without follow and clock, paragraph by paragraph: "latch cleared if Disarmed; checks; battery; rpm; breach; runaway; wind; mode;
 -- landing flag; hold; setpoint; `avoid`".
-use Rattle.std.specs.Prelude.{ℕ, Bool, true, false, cond, List, [], ◌∷◌, eqb, Float}
-use Rattle.std.proofs.Math.Option.{Option}
+use Rattle.std.specs.Prelude.{ℕ, Bool, true, false, cond, List, [], ◌∷◌, eqb, Float, Option}
 use Rattle.relay_fsm.specs.declared.Mode.{Mode}
 use Rattle.relay_fsm.specs.declared.Event.{Event}
 use Rattle.relay_batt.specs.Battery.{update_of}

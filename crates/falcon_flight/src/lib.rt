@@ -2,5 +2,6 @@
 #![tactic(auto)]
 
 pub mod milestone;
+pub(crate) mod seen;
 pub mod setpoint;
 pub mod tick;

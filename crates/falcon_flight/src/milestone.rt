@@ -1,10 +1,11 @@
 // The milestones: altitude, home and ground reached, and the mission's legs.
-ghost use Rattle.std.specs.Prelude.{◌≡◌, ◌+◌, cond, ltb};
-ghost use Rattle.falcon_flight.specs.Milestone.{high_at, near_home_at, near_ground_at, distance3_of, arrived_at, milestone_by_of, milestone_in};
+ghost use Rattle.std.specs.Prelude.{◌≡◌, ◌+◌, cond, Some, None};
+ghost use Rattle.falcon_flight.specs.Milestone.{high_at, near_home_at, near_ground_at, distance3_of, arrived_at, more_of, milestone_in};
 
-use falcon_failsafe::failsafe::{in_flight, on_if};
+use crate::seen::Seen;
+use falcon_failsafe::failsafe::{IN_FLIGHT, mode_given};
 use falcon_guidance::geometry::height;
-use falcon_guidance::state::{Config, Mission, Point, Tick};
+use falcon_guidance::state::{Mission, Point, Tick};
 use relay_fsm::{Event, Mode};
 use relay_math::sqrtf;
 
@@ -37,6 +38,7 @@ fn near_ground(height: f32) -> bool
 }
 
 // The distance of two points.
+#[tactic(auto, unfolding(crate::specs::Milestone::distance3_of))]
 fn distance3(p: Point, q: Point) -> f32
     ensures { result ≡ distance3_of p q }
 {
@@ -53,92 +55,38 @@ fn arrived(here: Point, p: Point) -> bool
     distance3(p, here) < Point::WAYPOINT_RADIUS
 }
 
-// A further leg follows.
-fn more(index: u32, count: u32) -> bool
-    ensures { result ≡ ltb (index + 1) count }
+// The leg after the active one, if a further one follows.
+fn further_leg(m: Mission) -> Option<u32>
+    ensures { result ≡ cond (more_of m) (Some (m.wp_index + 1)) None }
 {
-    if index < count {
-        return index + 1 < count;
-    }
-    false
+    m.wp_index.checked_add(1).filter(|leg| *leg < m.wp_count)
 }
 
-// The leg after this one, or this one where it is the last.
-fn leg_after(index: u32, count: u32) -> u32
-    ensures { result ≡ cond (ltb (index + 1) count) (index + 1) index }
-{
-    if more(index, count) {
-        return index + 1;
-    }
-    index
-}
-
-// The milestone of the mode, by its tests.
-fn milestone_by(
-    mode: Mode,
-    here: Point,
-    m: Mission,
-    high: bool,
-    home: bool,
-    low: bool,
-    p: Point,
-) -> Reached
-    ensures { result ≡ milestone_by_of mode here m high home low p }
-{
-    let wp_index = m.wp_index;
-    match mode {
-        Mode::Takeoff => Reached {
-            mode: on_if(mode, high, Event::ReachedAltitude, in_flight()),
+impl Seen {
+    // The milestone of the mode, with the waypoint of the active leg.
+    #[tactic(auto, unfolding(crate::specs::Milestone::milestone_in, crate::specs::Milestone::milestone_by_of))]
+    pub(crate) fn milestone(self, mode: Mode, here: Point, m: Mission) -> Reached
+        ensures { result ≡ milestone_in mode self.config here m self.home self.tick.p }
+    {
+        let p = self.tick.p;
+        let height = height(self.config, p);
+        let leg = m.wp_index;
+        let (event, wp_index) = match mode {
+            Mode::Takeoff => (
+                high(self.config.cruise_alt, height).then_some(Event::ReachedAltitude),
+                leg,
+            ),
+            Mode::Rtl => (near_home(self.home).then_some(Event::ReachedHome), leg),
+            Mode::Land => (near_ground(height).then_some(Event::Touchdown), leg),
+            Mode::Mission if arrived(here, p) => match further_leg(m) {
+                Some(next) => (None, next),
+                None => (Some(Event::RequestRtl), leg),
+            },
+            _ => (None, leg),
+        };
+        Reached {
+            mode: mode_given(mode, event, IN_FLIGHT),
             wp_index,
-        },
-        Mode::Rtl => Reached {
-            mode: on_if(mode, home, Event::ReachedHome, in_flight()),
-            wp_index,
-        },
-        Mode::Land => Reached {
-            mode: on_if(mode, low, Event::Touchdown, in_flight()),
-            wp_index,
-        },
-        Mode::Mission => {
-            if arrived(here, p) {
-                return Reached {
-                    mode: on_if(
-                        mode,
-                        !more(wp_index, m.wp_count),
-                        Event::RequestRtl,
-                        in_flight(),
-                    ),
-                    wp_index: leg_after(wp_index, m.wp_count),
-                };
-            }
-            Reached { mode, wp_index }
         }
-        Mode::Disarmed => Reached { mode, wp_index },
-        Mode::Armed => Reached { mode, wp_index },
-        Mode::Loiter => Reached { mode, wp_index },
-        Mode::Terminated => Reached { mode, wp_index },
     }
-}
-
-// The milestone, at this distance from home.
-pub(crate) fn milestone(
-    mode: Mode,
-    c: Config,
-    here: Point,
-    m: Mission,
-    home: f32,
-    p: Point,
-) -> Reached
-    ensures { result ≡ milestone_in mode c here m home p }
-{
-    let height = height(c, p);
-    milestone_by(
-        mode,
-        here,
-        m,
-        high(c.cruise_alt, height),
-        near_home(home),
-        near_ground(height),
-        p,
-    )
 }

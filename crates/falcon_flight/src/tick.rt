@@ -2,17 +2,17 @@
 ghost use Rattle.std.specs.Prelude.{◌≡◌};
 ghost use Rattle.falcon_flight.specs.Tick.{waypoint_after_of, answer_in, tick_of};
 
-use crate::milestone::milestone;
-use crate::setpoint::{commanded, landing, motors_off, setpoint};
-use falcon_failsafe::failsafe::{cleared, failsafes};
+use crate::seen::Seen;
+use crate::setpoint::{commanded, motors_off};
+use falcon_failsafe::failsafe::cleared;
 use falcon_failsafe::flight::{FailsafeState, FlightSupervisor};
 use falcon_failsafe::preflight::{esc_telemetry, update_preflight};
 use falcon_guidance::geometry::distance;
-use falcon_guidance::state::{Config, Horizontal, Legs, Point, Tick, Zones};
+use falcon_guidance::state::{Horizontal, Legs, Mission, Point, Tick, Zones};
 use falcon_hold::hold::held;
 use relay_fsm::{FlightFsm, Mode};
 
-// What a tick answers.
+// What a tick answers. An enum of its own and no Option: the cases have names that a reader of a day knows (docs/DECISIONS.md, "Forms").
 #[derive(Clone, Copy)]
 pub enum TickAnswer {
     MotorsOff,
@@ -31,29 +31,22 @@ pub struct Ticked {
     pub answer: TickAnswer,
 }
 
-// Motors off, or the setpoint; the motors were off before this tick or not.
-fn answered(
-    mode: Mode,
-    c: Config,
-    leg: Point,
-    z: Zones,
-    hold: Horizontal,
-    home: f32,
-    off: bool,
-    t: Tick,
-) -> TickAnswer
-    ensures { result ≡ answer_in mode c leg z hold home off t }
-{
-    if motors_off(mode) {
-        return TickAnswer::MotorsOff;
-    }
-    let p = t.p;
-    let descent = landing(mode, home, t);
-    let sp = setpoint(mode, c, leg, hold, p, t.failed_motor);
-    TickAnswer::Setpoint {
-        ned: commanded(z, descent, p, sp),
-        landing: descent,
-        rearm: off,
+impl Seen {
+    // Motors off, or the setpoint; the motors were off before this tick or not.
+    #[tactic(auto, unfolding(crate::specs::Tick::answer_in))]
+    fn answered(self, mode: Mode, leg: Point, z: Zones, hold: Horizontal, off: bool) -> TickAnswer
+        ensures { result ≡ answer_in mode self.config leg z hold self.home off self.tick }
+    {
+        if motors_off(mode) {
+            return TickAnswer::MotorsOff;
+        }
+        let landing = self.landing(mode);
+        let sp = self.setpoint(mode, leg, hold);
+        TickAnswer::Setpoint {
+            ned: commanded(z, landing, self.tick.p, sp),
+            landing,
+            rearm: off,
+        }
     }
 }
 
@@ -61,70 +54,49 @@ fn answered(
 fn waypoint_after(legs: Legs, from: u32, to: u32) -> Point
     ensures { result ≡ waypoint_after_of legs from to }
 {
-    if from == to {
-        return legs.here;
-    }
-    legs.next
+    if from == to { legs.here } else { legs.next }
 }
 
 // One tick, with the waypoints of the active leg and of the next.
+#[tactic(auto, using(crate::proofs::Assembled::assembled))]
 pub fn tick(f: FlightSupervisor, legs: Legs, t: Tick) -> Ticked
     ensures { result ≡ tick_of f legs t }
 {
     let config = f.config;
-    let point = t.p;
-    let center = f.config.home;
-    let home = distance(point, center);
-    let outside = home > f.config.fence_radius;
-    let fsm = f.fsm;
-    let mode = fsm.mode;
-    let latched = cleared(mode, f.rtl_latched);
-    let before = f.battery;
-    let reading = t.reading;
-    let battery = before.update(t.dt, reading);
-    let table = f.check_table;
-    let checked = update_preflight(table, config, before, latched, outside, t);
-    let counts = f.counts;
-    let guarded = failsafes(
-        FailsafeState {
-            mode,
-            counts,
-            rtl_latched: latched,
-        },
-        battery,
-        outside,
-        t,
-    );
-    let mission = f.mission;
-    let guarded_mode = guarded.mode;
-    let here = legs.here;
-    let reached = milestone(guarded_mode, config, here, mission, home, point);
-    let mode = reached.mode;
-    let held_before = f.hold;
-    let hold = held(held_before, mode, t);
-    let guarded_counts = guarded.counts;
-    let mut flight = f;
-    let after = FlightFsm { mode };
-    flight.fsm = after;
-    flight.battery = battery;
-    flight.mission.wp_index = reached.wp_index;
-    flight.hold = hold;
-    flight.counts = guarded_counts;
-    flight.check_table = esc_telemetry(checked, t.motor_rpm);
-    flight.rtl_latched = guarded.rtl_latched;
-    flight.motors_were_off = motors_off(mode);
-    let leg = waypoint_after(legs, mission.wp_index, reached.wp_index);
-    let zones = f.zones;
-    let hold_xy = hold.hold_xy;
-    let answer = answered(
-        mode,
+    let seen = Seen {
         config,
-        leg,
-        zones,
-        hold_xy,
-        home,
-        f.motors_were_off,
-        t,
-    );
+        home: distance(t.p, config.home),
+        tick: t,
+    };
+    let outside = seen.home > config.fence_radius;
+    let mode = f.fsm.mode;
+    let latched = cleared(mode, f.rtl_latched);
+    let battery = f.battery.update(t.dt, t.reading);
+    let checked = update_preflight(f.check_table, config, f.battery, latched, outside, t);
+    let sensed = FailsafeState {
+        mode,
+        counts: f.counts,
+        rtl_latched: latched,
+    };
+    let guarded = sensed.failsafes(battery, outside, t);
+    let reached = seen.milestone(guarded.mode, legs.here, f.mission);
+    let mode = reached.mode;
+    let hold = held(f.hold, mode, t);
+    let flight = FlightSupervisor {
+        fsm: FlightFsm { mode },
+        battery,
+        mission: Mission {
+            wp_index: reached.wp_index,
+            ..f.mission
+        },
+        hold,
+        counts: guarded.counts,
+        check_table: esc_telemetry(checked, t.motor_rpm),
+        rtl_latched: guarded.rtl_latched,
+        motors_were_off: motors_off(mode),
+        ..f
+    };
+    let leg = waypoint_after(legs, f.mission.wp_index, reached.wp_index);
+    let answer = seen.answered(mode, leg, f.zones, hold.hold_xy, f.motors_were_off);
     Ticked { flight, answer }
 }

@@ -2,7 +2,7 @@
 use Prim.Native.Nat.{ℕ, ◌≤◌, ◌<◌}
 use native.Mathlib.Omega.{arith}
 use native.Mathlib.Decide.{dec_lt}
-use mathlib.Core.Path.{◌≡◌, refl, sym, ap, ◌∙◌}
+use mathlib.Core.Path.{◌≡◌, refl, sym}
 use mathlib.Core.List.{List}
 use lib.Dec.{lit≤}
 use lib.ListN.{length, get_or, get_or-eq_default}
@@ -17,7 +17,7 @@ use Rattle.falcon_guidance.proofs.Waypoints.{waypoint_within}
 use Rattle.falcon_guidance.specs.Legs.{here_leg_of, next_leg_of, place_of, held_at, legs_from_of}
 
 -- a leg has a place
-place_below : (leg : ℕ) → place_of leg < max_waypoints
+pub place_below : (leg : ℕ) → place_of leg < max_waypoints
 unfolding place_of
 place_below leg =
     elim (dec_lt leg max_waypoints) [
@@ -52,8 +52,4 @@ module _ (ps : List Point) (long : length ps ≡ max_waypoints) where
       j ≡ place_of (next_leg_of m) →
       l ≡ legs_from_of c m (get_or ps i nowhere) (get_or ps j nowhere) →
       l ≡ legs_of c ps m
-  legs_are c m i j l here next e =
-      e
-      ∙ ap (λ (k : ℕ). legs_from_of c m (get_or ps k nowhere) (get_or ps j nowhere)) here
-      ∙ ap (λ (k : ℕ). legs_from_of c m (get_or ps (place_of (here_leg_of m)) nowhere) (get_or ps k nowhere)) next
-      ∙ legs_held c m
+  legs_are c m i j l here next e = rw (e, here, next) (legs_held c m)

@@ -1,3 +1,2 @@
 pub mod Waypoints
-pub mod KeptZones
 pub mod LegPlaces

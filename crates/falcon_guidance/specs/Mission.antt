@@ -1,5 +1,5 @@
 -- The waypoints: which are admissible, how a lent list is stored, and those of the active leg and the next.
-use Rattle.std.specs.Prelude.{ℕ, zero, suc, ◌+◌, ◌-◌, ◌*◌, ◌/◌, min, Bool, true, cond, ◌&&◌, List, eqb, length, get_or, set, replicate, Float}
+use Rattle.std.specs.Prelude.{ℕ, zero, suc, ◌+◌, ◌-◌, ◌*◌, ◌/◌, min, Bool, true, cond, ◌&&◌, List, eqb, length, get_or, replicate, Float}
 use Rattle.std.specs.Float.{nan, binary32}
 use Rattle.std.specs.Float.Ieee.{of_bits, sub, le}
 use Rattle.std.specs.Float.Ieee.Scale.{finite}
@@ -9,6 +9,7 @@ use Rattle.falcon_guidance.specs.declared.state.Mission.{Mission}
 use Rattle.falcon_guidance.specs.declared.state.Legs.{Legs}
 use Rattle.falcon_guidance.specs.State.{max_waypoints, point_numbers_of, origin}
 use Rattle.falcon_guidance.specs.Geometry.{distance_of}
+use Rattle.falcon_guidance.specs.Lent.{filled_of}
 
 -- `MISSION_MIN_ALT_AGL_M` 1.0 and `MISSION_MAX_ALT_AGL_M` 120.0
 abbrev pub min_alt_agl : Float
@@ -42,8 +43,7 @@ no_points_of = replicate max_waypoints origin
 
 -- the first n points of a lent list, each in its place, and the origin in every other
 unfoldable pub stored_of : List Float → ℕ → List Point
-stored_of l zero = no_points_of
-stored_of l (suc n) = set (stored_of l n) n (point_at_of l n)
+stored_of l n = filled_of (point_at_of l) n no_points_of
 
 -- `set_mission_waypoints` of an accepted list: the points tried, and the first leg
 unfoldable pub loaded_of : List Float → Mission

@@ -1,5 +1,5 @@
 -- `avoid`: the setpoint is deflected around the keep-out zones that the vehicle is near.
-use Rattle.std.specs.Prelude.{ℕ, zero, suc, ◌+◌, ◌*◌, ◌/◌, min, Bool, cond, ◌&&◌, ◌||◌, List, length, get_or, set, replicate, Float}
+use Rattle.std.specs.Prelude.{ℕ, zero, suc, ◌+◌, ◌*◌, ◌/◌, min, Bool, cond, ◌&&◌, ◌||◌, List, length, get_or, replicate, Float}
 use Rattle.std.specs.Float.{nan, binary32}
 use Rattle.std.specs.Float.Ieee.{of_bits, add, sub, mul, div, neg, lt}
 use Rattle.relay_math.specs.Root.{root}
@@ -12,6 +12,7 @@ use Rattle.falcon_guidance.specs.declared.zones.Goal.{Goal}
 use Rattle.falcon_guidance.specs.declared.zones.Bearing.{Bearing}
 use Rattle.falcon_guidance.specs.State.{max_keepout_zones, zone_numbers_of, point_of, zone_of, no_zone, nowhere, zerof}
 use Rattle.falcon_guidance.specs.Geometry.{length_of}
+use Rattle.falcon_guidance.specs.Lent.{filled_of}
 
 -- `KEEPOUT_MARGIN` 1.6, `KEEPOUT_INFLUENCE` 4.0, `KEEPOUT_LOOKAHEAD` 3.0, and the least distance 1e-3
 abbrev pub keepout_margin : Float
@@ -122,8 +123,7 @@ kept_of l = min (length l / zone_numbers_of) max_keepout_zones
 
 -- the first n zones of a lent list, each in its place, and no zone in every other
 unfoldable pub stored_zones_of : List Float → ℕ → List Zone
-stored_zones_of l zero = replicate max_keepout_zones no_zone
-stored_zones_of l (suc n) = set (stored_zones_of l n) n (zone_at_of l n)
+stored_zones_of l n = filled_of (zone_at_of l) n (replicate max_keepout_zones no_zone)
 
 -- `set_keepout_zones`
 unfoldable pub loaded_zones_of : List Float → Zones

@@ -6,6 +6,7 @@ use crate::state::{Config, Point};
 use relay_math::sqrtf;
 
 // The length of a horizontal vector.
+#[tactic(auto, unfolding(crate::specs::Geometry::length_of))]
 pub fn length(x: f32, y: f32) -> f32
     ensures { result ≡ length_of x y }
 {
@@ -13,6 +14,7 @@ pub fn length(x: f32, y: f32) -> f32
 }
 
 // The horizontal distance of two points.
+#[tactic(auto, unfolding(crate::specs::Geometry::distance_of))]
 pub fn distance(p: Point, q: Point) -> f32
     ensures { result ≡ distance_of p q }
 {
@@ -20,6 +22,7 @@ pub fn distance(p: Point, q: Point) -> f32
 }
 
 // The height of a position.
+#[tactic(auto, unfolding(crate::specs::Geometry::height_of))]
 pub fn height(c: Config, p: Point) -> f32
     ensures { result ≡ height_of c p }
 {

@@ -9,58 +9,51 @@ use crate::state::{Config, Legs, Mission, Point};
 fn last_leg(m: Mission) -> u32
     ensures { result ≡ m.wp_count - 1 }
 {
-    let count = m.wp_count;
-    if count == 0 {
-        return 0;
-    }
-    count - 1
+    m.wp_count.saturating_sub(1)
 }
 
 // The active leg, at most the last.
 fn here_leg(m: Mission) -> u32
     ensures { result ≡ here_leg_of m }
 {
-    let last = last_leg(m);
-    if m.wp_index < last {
-        return m.wp_index;
-    }
-    last
+    m.wp_index.min(last_leg(m))
 }
 
-// The leg after the active one, at most the last.
+// The leg after the active one, at most the last. A test and no `min`: a sum that stops at the limit takes longer.
 fn next_leg(m: Mission) -> u32
     ensures { result ≡ next_leg_of m }
 {
     let last = last_leg(m);
     if m.wp_index < last {
-        return m.wp_index + 1;
+        m.wp_index + 1
+    } else {
+        last
     }
-    last
 }
 
-// The place of a leg's waypoint, the first where the leg is beyond the places.
+// The place of a leg's waypoint, the first where the leg is beyond the places. No Option: a caller indexes the list with it, and `held_at` says what counts.
+#[tactic(auto, unfolding(crate::specs::Legs::place_of))]
 fn place_of(leg: u32) -> usize
     ensures { result ≡ place_of leg }
 {
     let at = leg as usize;
-    if at < Point::MAX_WAYPOINTS {
-        return at;
-    }
-    0
+    if at < Point::MAX_WAYPOINTS { at } else { 0 }
 }
 
 // The waypoint of a leg whose place holds this one, the origin beyond the places.
+#[tactic(auto, unfolding(crate::specs::Legs::held_at))]
 fn held_at(leg: u32, held: Point) -> Point
     ensures { result ≡ held_at leg held }
 {
-    let at = leg as usize;
-    if at < Point::MAX_WAYPOINTS {
-        return held;
+    if (leg as usize) < Point::MAX_WAYPOINTS {
+        held
+    } else {
+        Point::origin()
     }
-    Point::origin()
 }
 
 // The place of the active leg's waypoint.
+#[tactic(auto, unfolding(crate::specs::Legs::place_of))]
 pub fn here_place(m: Mission) -> usize
     ensures { result ≡ place_of (here_leg_of m) }
 {
@@ -68,6 +61,7 @@ pub fn here_place(m: Mission) -> usize
 }
 
 // The place of the next leg's waypoint.
+#[tactic(auto, unfolding(crate::specs::Legs::place_of))]
 pub fn next_place(m: Mission) -> usize
     ensures { result ≡ place_of (next_leg_of m) }
 {
@@ -75,14 +69,14 @@ pub fn next_place(m: Mission) -> usize
 }
 
 // The waypoints of the active leg and of the next, whose places hold these; home where there is none.
+#[tactic(auto, unfolding(crate::specs::Legs::legs_from_of))]
 pub fn legs_from(c: Config, m: Mission, here: Point, next: Point) -> Legs
     ensures { result ≡ legs_from_of c m here next }
 {
     if m.wp_count == 0 {
-        let home = c.home;
         return Legs {
-            here: home,
-            next: home,
+            here: c.home,
+            next: c.home,
         };
     }
     Legs {
@@ -92,10 +86,9 @@ pub fn legs_from(c: Config, m: Mission, here: Point, next: Point) -> Legs
 }
 
 // The same from the whole list.
+#[tactic(auto, using(crate::proofs::LegPlaces::place_below, crate::proofs::LegPlaces::legs_are))]
 pub fn legs(c: Config, points: [Point; Point::MAX_WAYPOINTS], m: Mission) -> Legs
     ensures { result ≡ legs_of c points m }
 {
-    let here_at = here_place(m);
-    let next_at = next_place(m);
-    legs_from(c, m, points[here_at], points[next_at])
+    legs_from(c, m, points[here_place(m)], points[next_place(m)])
 }

@@ -3,6 +3,7 @@
 
 pub mod geometry;
 pub mod legs;
+mod lent;
 pub mod mission;
 pub mod state;
 pub mod zones;

@@ -30,7 +30,7 @@ impl Point {
         Point { x, y, z }
     }
 
-    // What an unused place holds.
+    // What an unused place holds. No Default: zeros are a point like any other, and the name says which one is meant.
     pub fn origin() -> Point
         ensures { result ≡ origin }
     {
@@ -69,19 +69,39 @@ impl Zone {
         Zone { center, radius }
     }
 
-    // What an unused place holds.
+    // What an unused place holds. No Default: the name says that there is no zone.
     pub fn none() -> Zone
         ensures { result ≡ no_zone }
     {
-        let center = Point {
-            x: 0.0,
-            y: 0.0,
-            z: 0.0,
-        };
         Zone {
-            center,
+            center: Point::origin(),
             radius: 0.0,
         }
+    }
+}
+
+// What stands in places of the state.
+pub trait Place: Copy {
+    ghost empty: { Self };
+
+    // What an unused place holds.
+    fn unused() -> Self
+        ensures { result ≡ empty };
+}
+
+impl Place for Point {
+    ghost empty = { origin };
+
+    fn unused() -> Point {
+        Point::origin()
+    }
+}
+
+impl Place for Zone {
+    ghost empty = { no_zone };
+
+    fn unused() -> Zone {
+        Zone::none()
     }
 }
 
@@ -147,7 +167,7 @@ pub struct Config {
     pub calibration_configured: bool,
 }
 
-// How many waypoints are in use, and the active leg.
+// How many waypoints are in use, and the active leg. The list stands beside it, always with all its places: the state is copied by value, with no heap.
 #[derive(Clone, Copy)]
 pub struct Mission {
     pub wp_count: u32,
@@ -161,14 +181,14 @@ pub struct Legs {
     pub next: Point,
 }
 
-// The keep-out zones and how many are in use. Unused places hold no zone.
+// The keep-out zones and how many are in use. Unused places hold no zone; all places are always there: the state is copied by value, with no heap.
 #[derive(Clone, Copy)]
 pub struct Zones {
     pub zones: [Zone; Zone::MAX_KEEPOUT_ZONES],
     pub zone_count: u32,
 }
 
-// The hold point of Takeoff and Loiter, and the braking before it is latched.
+// The hold point of Takeoff and Loiter, and the braking before it is latched. No Option: the point and the times outlive the flags, and a record has them.
 #[derive(Clone, Copy)]
 pub struct Hold {
     pub hold_xy: Horizontal,

@@ -1,7 +1,8 @@
 -- The hold point is latched on entry to Takeoff or Loiter and kept from the one to the other. Assumes nothing.
-use mathlib.Core.Bool.{Bool, true, false, ◌||◌}
-use mathlib.Core.Path.{◌≡◌, refl}
+use mathlib.Core.Bool.{true, false, ◌||◌}
+use mathlib.Core.Path.{◌≡◌}
 use lib.Dec.{T}
+use lib.Ieee.Bits.{is_true}
 use Rattle.relay_fsm.specs.declared.Mode.{Mode}
 use Rattle.relay_fsm.specs.declared.Mode.TheVariants.{Takeoff, Loiter}
 use Rattle.relay_fsm.specs.Mode.{is_mode}
@@ -9,10 +10,6 @@ use Rattle.relay_fsm.proofs.Finite.{◌⇒◌, then, at_m}
 use Rattle.falcon_guidance.specs.declared.state.Tick.{Tick}
 use Rattle.falcon_guidance.specs.declared.state.Hold.{Hold}
 use Rattle.falcon_hold.specs.Hold.{holds_of, entered_of, kept_of, held_of}
-
-is_true : (a : Bool) → T a → a ≡ true
-is_true true h = refl
-is_true false h = absurd h
 
 holding_modes : (m : Mode) → T (is_mode m Takeoff || is_mode m Loiter) → holds_of m ≡ true
 holding_modes m h =

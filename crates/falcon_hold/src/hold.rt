@@ -1,12 +1,13 @@
 // The hold point: latched on entry to Takeoff or Loiter, after braking where Loiter is entered while moving.
 ghost use Rattle.std.specs.Prelude.{◌≡◌};
-ghost use Rattle.falcon_hold.specs.Hold.{horiz_speed_of, holds_of, here_of, brake_point_of, entered_of, rest_of, braked_of, left_of, kept_of, held_of};
+ghost use Rattle.falcon_hold.specs.Hold.{horiz_speed_of, holds_of, here_of, brake_point_of, entered_of, rest_of, braked_of, left_of, held_of};
 
 use falcon_guidance::geometry::length;
 use falcon_guidance::state::{Hold, Horizontal, Tick};
 use relay_fsm::Mode;
 
 // The horizontal speed.
+#[tactic(auto, unfolding(crate::specs::Hold::horiz_speed_of))]
 pub fn horiz_speed(t: Tick) -> f32
     ensures { result ≡ horiz_speed_of t }
 {
@@ -17,16 +18,7 @@ pub fn horiz_speed(t: Tick) -> f32
 fn holds(mode: Mode) -> bool
     ensures { result ≡ holds_of mode }
 {
-    match mode {
-        Mode::Disarmed => false,
-        Mode::Armed => false,
-        Mode::Takeoff => true,
-        Mode::Loiter => true,
-        Mode::Mission => false,
-        Mode::Land => false,
-        Mode::Rtl => false,
-        Mode::Terminated => false,
-    }
+    matches!(mode, Mode::Takeoff | Mode::Loiter)
 }
 
 // Where the vehicle is.
@@ -37,6 +29,7 @@ fn here(t: Tick) -> Horizontal
 }
 
 // The point behind the vehicle along its own velocity.
+#[tactic(auto, unfolding(crate::specs::Hold::brake_point_of))]
 fn brake_point(t: Tick) -> Horizontal
     ensures { result ≡ brake_point_of t }
 {
@@ -47,85 +40,71 @@ fn brake_point(t: Tick) -> Horizontal
 }
 
 // Entry latches the point here; Loiter entered while moving brakes first.
+#[tactic(auto, unfolding(crate::specs::Hold::entered_of))]
 fn entered(h: Hold, mode: Mode, t: Tick) -> Hold
     ensures { result ≡ entered_of h mode t }
 {
     if h.hold_regime {
         return h;
     }
-    let hold_xy = here(t);
     Hold {
-        hold_xy,
+        hold_xy: here(t),
         hold_regime: true,
-        hold_braking: mode.is(Mode::Loiter) & (horiz_speed(t) > Hold::HOLD_BRAKE_ENTRY_MS),
+        hold_braking: (mode == Mode::Loiter) & (horiz_speed(t) > Hold::HOLD_BRAKE_ENTRY_MS),
         brake_s: 0.0,
         brake_rest_s: 0.0,
     }
 }
 
 // The time at rest without a break.
+#[tactic(auto, unfolding(crate::specs::Hold::rest_of))]
 fn rest(h: Hold, t: Tick) -> f32
     ensures { result ≡ rest_of h t }
 {
     if horiz_speed(t) < Hold::HOLD_REST_MS {
-        return h.brake_rest_s + t.dt;
+        h.brake_rest_s + t.dt
+    } else {
+        0.0
     }
-    0.0
 }
 
 // At rest long enough, or out of time, the point is latched here; until then it is the brake point.
+#[tactic(auto, unfolding(crate::specs::Hold::braked_of))]
 fn braked(h: Hold, t: Tick) -> Hold
     ensures { result ≡ braked_of h t }
 {
     let brake_s = h.brake_s + t.dt;
     let brake_rest_s = rest(h, t);
-    if (brake_rest_s >= Hold::HOLD_REST_S) | (brake_s >= Hold::HOLD_BRAKE_MAX_S) {
-        let hold_xy = here(t);
-        return Hold {
-            hold_xy,
-            hold_regime: h.hold_regime,
-            hold_braking: false,
-            brake_s,
-            brake_rest_s,
-        };
-    }
-    let hold_xy = brake_point(t);
+    let latched = (brake_rest_s >= Hold::HOLD_REST_S) | (brake_s >= Hold::HOLD_BRAKE_MAX_S);
     Hold {
-        hold_xy,
-        hold_regime: h.hold_regime,
-        hold_braking: true,
+        hold_xy: if latched { here(t) } else { brake_point(t) },
+        hold_braking: !latched,
         brake_s,
         brake_rest_s,
+        ..h
     }
-}
-
-// In a mode that flies to the hold point.
-fn kept(h: Hold, mode: Mode, t: Tick) -> Hold
-    ensures { result ≡ kept_of h mode t }
-{
-    let e = entered(h, mode, t);
-    if e.hold_braking {
-        return braked(e, t);
-    }
-    e
 }
 
 // In another mode: the next entry latches afresh.
+#[tactic(auto, unfolding(crate::specs::Hold::left_of))]
 fn left(h: Hold) -> Hold
     ensures { result ≡ left_of h }
 {
-    let mut next = h;
-    next.hold_regime = false;
-    next.hold_braking = false;
-    next
+    Hold {
+        hold_regime: false,
+        hold_braking: false,
+        ..h
+    }
 }
 
-// The hold after a tick in this mode.
+// The hold after a tick in this mode: entry where it is new, then braking where that goes on.
+#[tactic(auto, unfolding(crate::specs::Hold::held_of, crate::specs::Hold::kept_of))]
 pub fn held(h: Hold, mode: Mode, t: Tick) -> Hold
     ensures { result ≡ held_of h mode t }
 {
-    if holds(mode) {
-        return kept(h, mode, t);
+    if !holds(mode) {
+        return left(h);
     }
-    left(h)
+    let e = entered(h, mode, t);
+    if e.hold_braking { braked(e, t) } else { e }
 }

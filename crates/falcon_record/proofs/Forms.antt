@@ -1,9 +1,9 @@
 -- The field counts tell the forms apart, and the bytes of a written line are read as its columns.
 use Prim.Native.Nat.{ℕ, ◌≤◌}
 use native.Mathlib.Omega.{arith}
-use mathlib.Core.Option.{some}
+use Rattle.std.specs.Prelude.{Some}
 use mathlib.Core.Path.{◌≡◌, refl}
-use Rattle.columns.specs.Line.{read, read_within, line_of}
+use Rattle.columns.specs.Line.{read_within, line_of}
 use Rattle.columns.proofs.LineAgain.{line_again}
 use Rattle.falcon_guidance.specs.State.{max_waypoints}
 use Rattle.falcon_core.specs.declared.supervisor.Supervisor.{Supervisor}
@@ -25,16 +25,16 @@ fields_are = (refl, refl, refl, refl, refl)
 
 -- "is told by its field count", each of them
 pub form_told :
-    (form_of (fields_of first_form) ≡ some first_form)
-    × (form_of (fields_of opening_form) ≡ some opening_form)
-    × (form_of (fields_of long_form) ≡ some long_form)
-    × (form_of (fields_of topped_form) ≡ some topped_form)
-    × (form_of (fields_of target_form) ≡ some target_form)
+    (form_of (fields_of first_form) ≡ Some first_form)
+    × (form_of (fields_of opening_form) ≡ Some opening_form)
+    × (form_of (fields_of long_form) ≡ Some long_form)
+    × (form_of (fields_of topped_form) ≡ Some topped_form)
+    × (form_of (fields_of target_form) ≡ Some target_form)
 unfolding form_of fields_of later_at zones_at zone_width
 form_told = (refl, refl, refl, refl, refl)
 
 -- the bytes of a written line are read as its columns, by any limit from its field count on
-pub line_back : (form : Form) (s : Supervisor) (limit : ℕ) → Kept s → fields_of form ≤ limit → read_within limit (line_of (columns_in form s)) ≡ read (columns_in form s)
+pub line_back : (form : Form) (s : Supervisor) (limit : ℕ) → Kept s → fields_of form ≤ limit → read_within limit (line_of (columns_in form s)) ≡ Some (columns_in form s)
 unfolding fields_of later_at zones_at
 line_back form s limit k h =
     let long = length_columns form s in

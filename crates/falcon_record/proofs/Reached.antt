@@ -4,6 +4,7 @@ use native.Mathlib.Omega.{arith}
 use mathlib.Core.List.{List}
 use mathlib.Core.Path.{◌≡◌}
 use lib.Dec.{lit<}
+use Rattle.std.specs.Prelude.{None}
 use Rattle.columns.specs.Line.{InRange}
 use Rattle.falcon_guidance.specs.declared.state.Tick.{Tick}
 use Rattle.falcon_failsafe.specs.declared.flight.FlightSupervisor.{FlightSupervisor}
@@ -26,7 +27,7 @@ unfolding wind_counted
 wind_counted_lem f t = cond_keeps (λ (n : ℕ). n < 2 ^ 32) (windy_in f.fsm.mode (gusty_of t)) _ 0 (omega arith) (lit< tt)
 
 -- an accepted call
-pub after_wind_lem : (s : Supervisor) (r : Request) → s.flight.counts.wind_count < 2 ^ 32 → refusal_of s r ≡ 0 → (after_of s r).flight.counts.wind_count < 2 ^ 32
+pub after_wind_lem : (s : Supervisor) (r : Request) → s.flight.counts.wind_count < 2 ^ 32 → refusal_of s r ≡ None → (after_of s r).flight.counts.wind_count < 2 ^ 32
 unfolding after_of flight_after start_of opened_of
 after_wind_lem s (opens o) k e = lit< tt
 after_wind_lem s (ticks t) k e = rw (tick_counts s.flight (legs_in s) t) (wind_counted_lem (after_runaway s.flight t) t)

@@ -3,16 +3,17 @@ use Prim.Native.Nat.{ℕ, zero, suc, ◌+◌, ◌*◌, ◌<◌, ◌≤◌}
 use native.Mathlib.Nat.{not-suc-le-zero, mul-zero, mul-suc, mul-le-mul_left}
 use native.Mathlib.Decide.{dec_lt}
 use native.Mathlib.Omega.{arith}
-use mathlib.Core.Bool.{Bool, true, false}
+use mathlib.Core.Bool.{Bool, true, false, cond}
 use mathlib.Core.Path.{◌≡◌, refl, sym, ap, ◌∙◌}
-use mathlib.Core.List.{List, ◌++◌}
+use mathlib.Core.List.{List, [], ◌∷◌, ◌++◌, append-nil}
 use borrow.Author.Tests.{lt-ltb, le-ltb}
 use lib.Dec.{ltb}
-use lib.ListN.{length, get_or, drop, replicate, length-append, length-drop, length-replicate, get_or-replicate, get_or-append}
+use lib.ListN.{length, get_or, replicate, length-append, length-replicate, get_or-replicate, get_or-append}
 use lib.Seq.{get_or-append-add, ext_get_or}
-use Rattle.columns.specs.Line.{over, put_over}
-use Rattle.columns.proofs.Writing.{put_behind, over_all}
-use Rattle.falcon_core.specs.SoundState.{filled_of, Tidy}
+use Rattle.std.specs.List.{flat_map}
+use Rattle.std.proofs.lemmas.Grind.{flat_map-append}
+use Rattle.std.proofs.lemmas.List.{get_or_default}
+use Rattle.falcon_core.specs.SoundState.{first_of, filled_of, Tidy}
 use Rattle.falcon_core.proofs.Places.{length_filled, filled_at, filled_beyond}
 use Rattle.falcon_record.specs.Columns.{placed, place_in}
 
@@ -80,33 +81,23 @@ refilled Held d z size l count f k h =
       | no b ↦ filled_beyond f d count zs i (omega arith) ∙ get_or-replicate size i z d q ∙ sym (k.beyond i (omega arith) q)
     ])
 
--- an array of so many stretches, with the first i of them at its start
-pub record Stretched (f : ℕ → List ℕ) (w size : ℕ) (d n : List ℕ) (i : ℕ) : Type 0 where
-  pub most : i ≤ size
-  pub is : n ≡ over (placed f i) d
-  pub long : length n ≡ w * size
+-- the columns of rows, one behind the other
+pub rows_placed : (f : ℕ → List ℕ) (n : ℕ) → flat_map (λ x. x) (first_of f n) ≡ placed f n
+unfolding first_of placed
+rows_placed f zero = refl
+rows_placed f (suc n) = flat_map-append (λ x. x) (first_of f n) (f n ∷ []) ∙ rw (rows_placed f n, append-nil (f n)) refl
 
-module _ (f : ℕ → List ℕ) (w : ℕ) (h : (i : ℕ) → length (f i) ≡ w) (size : ℕ) (d : List ℕ) (e : length d ≡ w * size) where
-  pub stretch_first : Stretched f w size d d 0
-  unfolding placed
-  stretch_first = record { most = omega arith; is = refl; long = e }
+-- the same rows are the same columns
+placed_same : (f g : ℕ → List ℕ) (n : ℕ) → ((i : ℕ) → i < n → f i ≡ g i) → placed f n ≡ placed g n
+unfolding placed
+placed_same f g zero h = refl
+placed_same f g (suc n) h = rw (placed_same f g n (λ i p. h i (omega arith)), h n (omega arith)) refl
 
-  -- one more put
-  pub stretch_next : (n m p : List ℕ) (i : ℕ) → Stretched f w size d n i → i < size → p ≡ f i → m ≡ put_over (w * i) p n → Stretched f w size d m (suc i)
-  unfolding placed
-  stretch_next n m p i k less q put_is =
-      let room : w * i + w ≤ w * size = omega (arith, mul-le-mul_left w less, mul-suc w i) in
-      let is : m ≡ over (placed f i ++ f i) d =
-      put_behind (placed f i) (f i) d n m (w * i) (length_placed f w h i) (omega (arith, h i)) k.is (put_is ∙ ap (λ (x : List ℕ). put_over (w * i) x n) q) in
-      let some : length (placed f i ++ f i) ≤ w * size = omega (arith, length_placed f w h (suc i), mul-suc w i) in
-      record {
-        most = less;
-        is = is;
-        long = ap length is ∙ length-append (placed f i ++ f i) (drop (length (placed f i ++ f i)) d) ∙ omega (arith, length-drop (length (placed f i ++ f i)) d);
-      }
-
-  -- and all of them
-  pub stretches_all : (n : List ℕ) (i : ℕ) → Stretched f w size d n i → size ≤ i → n ≡ placed f size
-  stretches_all n i k last =
-      let all : i ≡ size = omega (arith, k.most) in
-      k.is ∙ ap (λ (j : ℕ). over (placed f j) d) all ∙ over_all (placed f size) d (length_placed f w h size ∙ sym e)
+-- whatever is read past the end, the rows of all places are the same
+pub places_placed :
+    {A : Type 0} (cols : A → List ℕ) (d z : A) (l : List A) (count : ℕ) →
+    flat_map (λ x. x) (first_of (λ i. cols (place_in z z l count i)) (length l)) ≡ placed (λ i. cols (place_in d z l count i)) (length l)
+unfolding place_in
+places_placed cols d z l count =
+    rows_placed (λ i. cols (place_in z z l count i)) (length l)
+    ∙ placed_same _ _ (length l) (λ i h. ap (λ x. cols (cond (ltb i count) x z)) (get_or_default l i z d h))

@@ -1,6 +1,5 @@
 -- The forms of a line of kind 9. A later request adds columns; which form a line has is told by its field count alone.
-use Rattle.std.specs.Prelude.{ℕ, ◌+◌, ◌*◌, Bool, true, false, cond, List, [], ◌∷◌, eqb}
-use Rattle.std.proofs.Math.Option.{Option, none, some}
+use Rattle.std.specs.Prelude.{ℕ, ◌+◌, ◌*◌, Bool, true, false, cond, List, [], ◌∷◌, eqb, Option, Some, None}
 use Rattle.falcon_guidance.specs.State.{max_keepout_zones, point_numbers_of, zone_numbers_of}
 
 -- places for points, whether a zone has a top, and which later columns there are: the opening's kind; the clock, the target's time, the target and the source
@@ -59,8 +58,8 @@ forms = first_form ∷ opening_form ∷ long_form ∷ topped_form ∷ target_for
 
 -- the first of the forms that has so many fields
 abbrev pub form_in : ℕ → List Form → Option Form
-form_in n [] = none
-form_in n (form ∷ l) = cond (eqb (fields_of form) n) (some form) (form_in n l)
+form_in n [] = None
+form_in n (form ∷ l) = cond (eqb (fields_of form) n) (Some form) (form_in n l)
 
 -- U7: "is told by its field count"
 unfoldable pub form_of : ℕ → Option Form

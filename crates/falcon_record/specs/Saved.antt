@@ -1,10 +1,10 @@
 -- U2: what a call for the state writes, and the call by values with its array.
-use Rattle.std.specs.Prelude.{ℕ, cond, List, eqb, ltb, length}
+use Rattle.std.specs.Prelude.{ℕ, cond, List, ltb, length, is_ok}
 use Rattle.columns.specs.Line.{over}
 use Rattle.falcon_core.specs.declared.supervisor.Supervisor.{Supervisor}
 use Rattle.falcon_core.specs.declared.calls.Answered.{Answered}
 use Rattle.falcon_core.specs.Calls.{plans, saves, refused_of, step_of}
-use Rattle.falcon_core.specs.Refusals.{short_buffer_of}
+use Rattle.falcon_core.specs.declared.refusal.Refusal.TheVariants.{ShortBuffer}
 use Rattle.falcon_record.specs.Form.{Form, first_form, fields_of}
 use Rattle.falcon_record.specs.Columns.{columns_in}
 
@@ -26,8 +26,8 @@ record_room = 160
 
 -- the call by values, with the array that takes the columns: where that is too short it is 9, which comes first
 unfoldable pub save_step : Supervisor → List ℕ → Answered
-save_step s a = cond (ltb (length a) record_room) (refused_of s short_buffer_of) (step_of s (plans saves))
+save_step s a = cond (ltb (length a) record_room) (refused_of s ShortBuffer) (step_of s (plans saves))
 
 -- the array after it: the columns where it is accepted, and behind them, or where it is refused, what stood there
 unfoldable pub saved_over : Supervisor → List ℕ → List ℕ
-saved_over s a = cond (eqb (save_step s a).answer.refusal 0) (over (columns_of s) a) a
+saved_over s a = cond (is_ok (save_step s a).answer.outcome) (over (columns_of s) a) a

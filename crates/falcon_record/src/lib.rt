@@ -1,26 +1,26 @@
 // The record: the state of a supervisor as the columns of a line of kind 9, which docs/RECORD.md lists.
 #![tactic(auto)]
 
-ghost use Rattle.std.specs.Prelude.{◌≡◌, false, [], ◌∷◌, ◌++◌, ◌<◌};
+ghost use Rattle.std.specs.Prelude.{◌≡◌, ℕ, ◌+◌, false, List, [], ◌∷◌, ◌++◌, length};
+ghost use Rattle.falcon_core.specs.SoundState.{first_of};
 ghost use Rattle.relay_batt.specs.Numbers.{battery_numbers_of};
-ghost use Rattle.falcon_guidance.specs.State.{origin, no_zone, nowhere, max_waypoints, max_keepout_zones};
-ghost use Rattle.falcon_guidance.specs.Zones.{no_place};
 ghost use Rattle.falcon_totals.specs.Totals.{totals_numbers};
 ghost use Rattle.falcon_record.specs.Columns.{record_kind, config_columns, check_columns, hold_columns, count_columns, use_columns};
-ghost use Rattle.falcon_record.specs.Columns.{scalar_columns, place_in, point_columns, zone_columns, points_columns, zones_columns};
-ghost use Rattle.falcon_record.specs.Saved.{written_form, columns_of, save_step, saved_over};
+ghost use Rattle.falcon_record.specs.Columns.{scalar_columns, place_in, point_columns, zone_columns};
+ghost use Rattle.falcon_record.specs.Saved.{columns_of, save_step, saved_over};
 
 use columns::line::put_numbers;
-use falcon_core::calls::{Answer, Answered, refused};
+use falcon_core::calls::{Answered, refused};
+use falcon_core::refusal::Refusal;
 use falcon_core::supervisor::Supervisor;
 use falcon_failsafe::flight::FlightSupervisor;
-use falcon_guidance::state::{Config, Point, Zone, Zones};
+use falcon_guidance::state::{Config, Place, Point, Zone};
 use falcon_totals::DayTotals;
 use relay_batt::Battery;
 use relay_batt::numbers::{estimator_numbers, silence_numbers, state_numbers};
-use relay_math::{flag_number, to_bits};
+use relay_math::to_bits;
 
-// The kind of the line whose columns these are.
+// The kind of the line whose columns these are. No line of it is taken, so it is none of the kinds of requests.
 const RECORD_KIND: u32 = 9;
 
 // The columns of what an opening sets and of the mode, those of the battery, and those of what is counted and in use: all before the first point.
@@ -37,13 +37,14 @@ const POINTS: usize = Point::NUMBERS * Point::MAX_WAYPOINTS;
 
 const ZONES: usize = Zone::NUMBERS * Zone::MAX_KEEPOUT_ZONES;
 
-// The columns of a record.
+// The columns of a record. Each part is a named function and no From, which would not say which part.
 pub const RECORD_FIELDS: usize = SCALARS + POINTS + ZONES;
 
 // The fields that a line of kind 9 may have: a buffer or an array for a record has room for so many.
 pub const RECORD_ROOM: usize = 160;
 
 // Home, fence, cruise height, opening volts, cells, calibration.
+#[tactic(auto, unfolding(crate::specs::Columns::config_columns))]
 fn config_numbers(c: Config, cells: u32) -> [u32; 8]
     ensures { result ≡ config_columns c cells }
 {
@@ -55,178 +56,165 @@ fn config_numbers(c: Config, cells: u32) -> [u32; 8]
         to_bits(c.cruise_alt),
         to_bits(c.low_batt_v),
         cells,
-        flag_number(c.calibration_configured),
+        u32::from(c.calibration_configured),
     ]
 }
 
 // The masks and the mode.
+#[tactic(auto, unfolding(crate::specs::Columns::check_columns))]
 fn check_numbers(f: FlightSupervisor) -> [u32; 3]
     ensures { result ≡ check_columns f }
 {
-    let table = f.check_table;
-    let fsm = f.fsm;
-    let mode = fsm.mode;
-    [table.required, table.passed, mode.number()]
+    [
+        f.check_table.required,
+        f.check_table.passed,
+        u32::from(f.fsm.mode),
+    ]
 }
 
 // The hold point, the regime, braking and its two times; the tilt and wind counts, the failsafe latch, the motors.
+#[tactic(auto, unfolding(crate::specs::Columns::hold_columns, crate::specs::Columns::count_columns))]
 fn hold_numbers(f: FlightSupervisor) -> [u32; 10]
     ensures { result ≡ hold_columns f.hold ++ count_columns f }
 {
     [
         to_bits(f.hold.hold_xy.x),
         to_bits(f.hold.hold_xy.y),
-        flag_number(f.hold.hold_regime),
-        flag_number(f.hold.hold_braking),
+        u32::from(f.hold.hold_regime),
+        u32::from(f.hold.hold_braking),
         to_bits(f.hold.brake_s),
         to_bits(f.hold.brake_rest_s),
         f.counts.runaway_count,
         f.counts.wind_count,
-        flag_number(f.rtl_latched),
-        flag_number(f.motors_were_off),
+        u32::from(f.rtl_latched),
+        u32::from(f.motors_were_off),
     ]
 }
 
 // Point count, leg, zone count.
+#[tactic(auto, unfolding(crate::specs::Columns::use_columns))]
 fn use_numbers(f: FlightSupervisor) -> [u32; 3]
     ensures { result ≡ use_columns f }
 {
     [f.mission.wp_count, f.mission.wp_index, f.zones.zone_count]
 }
 
+// Three parts as one, each behind the one before it.
+fn joined<const N: usize>(a: &[u32], b: &[u32], c: &[u32]) -> [u32; N]
+    requires { length a.now + (length b.now + length c.now) ≡ N }
+    ensures { result ≡ a.now ++ (b.now ++ c.now) }
+{
+    let mut numbers = [0u32; N];
+    put_numbers(&mut numbers, 0, a);
+    put_numbers(&mut numbers, a.len(), b);
+    put_numbers(&mut numbers, a.len() + b.len(), c);
+    numbers
+}
+
 // The kind, the configuration, the masks and the mode.
+#[tactic(auto, unfolding(crate::specs::Columns::config_columns, crate::specs::Columns::check_columns))]
 fn opening_numbers(f: FlightSupervisor) -> [u32; OPENING]
     ensures { result ≡ (record_kind ∷ []) ++ (config_columns f.config f.battery.est.cfg.cells ++ check_columns f) }
 {
-    let config = f.config;
     let cells = f.battery.est.cfg.cells;
-    let mut numbers = [0u32; OPENING];
-    put_numbers(&mut numbers, 0, &[RECORD_KIND]);
-    put_numbers(&mut numbers, 1, &config_numbers(config, cells));
-    put_numbers(&mut numbers, 9, &check_numbers(f));
-    numbers
+    joined(
+        &[RECORD_KIND],
+        &config_numbers(f.config, cells),
+        &check_numbers(f),
+    )
 }
 
 // The battery.
+#[tactic(auto, unfolding(relay_batt::specs::Numbers::battery_numbers_of, relay_batt::specs::Numbers::estimator_numbers_of, relay_batt::specs::Numbers::state_numbers_of, relay_batt::specs::Numbers::silence_numbers_of))]
 fn battery_numbers(b: Battery) -> [u32; BATTERY]
     ensures { result ≡ battery_numbers_of b }
 {
-    let est = b.est;
-    let state = b.state;
-    let mut numbers = [0u32; BATTERY];
-    put_numbers(&mut numbers, 0, &estimator_numbers(est));
-    put_numbers(&mut numbers, 9, &state_numbers(state));
-    put_numbers(&mut numbers, 18, &silence_numbers(b));
-    numbers
+    joined(
+        &estimator_numbers(b.est),
+        &state_numbers(b.state),
+        &silence_numbers(b),
+    )
 }
 
 // The hold, the counts, the totals and what is in use.
+#[tactic(auto, unfolding(crate::specs::Columns::hold_columns, crate::specs::Columns::count_columns, crate::specs::Columns::use_columns, falcon_totals::specs::Totals::totals_numbers))]
 fn flown_numbers(f: FlightSupervisor, totals: DayTotals) -> [u32; FLOWN]
     ensures { result ≡ (hold_columns f.hold ++ count_columns f) ++ (totals_numbers totals ++ use_columns f) }
 {
-    let mut numbers = [0u32; FLOWN];
-    put_numbers(&mut numbers, 0, &hold_numbers(f));
-    put_numbers(&mut numbers, 10, &totals.numbers());
-    put_numbers(&mut numbers, 19, &use_numbers(f));
-    numbers
+    joined(&hold_numbers(f), &totals.numbers(), &use_numbers(f))
 }
 
 // The columns before the first point.
 fn scalar_numbers(s: Supervisor) -> [u32; SCALARS]
     ensures { result ≡ scalar_columns s }
 {
-    let f = s.flight;
-    let battery = f.battery;
-    let totals = s.totals;
-    let mut numbers = [0u32; SCALARS];
-    put_numbers(&mut numbers, 0, &opening_numbers(f));
-    put_numbers(&mut numbers, OPENING, &battery_numbers(battery));
-    put_numbers(&mut numbers, OPENING + BATTERY, &flown_numbers(f, totals));
-    numbers
+    joined(
+        &opening_numbers(s.flight),
+        &battery_numbers(s.flight.battery),
+        &flown_numbers(s.flight, s.totals),
+    )
 }
 
-// Three numbers a point.
-fn point_numbers(p: Point) -> [u32; Point::NUMBERS]
-    ensures { result ≡ point_columns p }
-{
-    [to_bits(p.x), to_bits(p.y), to_bits(p.z)]
+// What stands in places of the state, and its columns. How many is a parameter: an array's length can't be a constant of a type parameter.
+trait Recorded<const W: usize>: Place {
+    ghost columns: { Self → List ℕ };
+
+    fn columns(self) -> [u32; W]
+        ensures { result ≡ columns self };
 }
 
-// Place i of the points, and the origin where it is not in use.
-fn point_in(waypoints: [Point; Point::MAX_WAYPOINTS], count: u32, i: usize) -> Point
-    requires { i < max_waypoints }
-    ensures { result ≡ place_in nowhere origin waypoints count i }
-{
-    if i < count as usize {
-        return waypoints[i];
+impl Recorded<{ Point::NUMBERS }> for Point {
+    ghost columns = { point_columns };
+
+    #[tactic(auto, unfolding(crate::specs::Columns::point_columns))]
+    fn columns(self) -> [u32; Point::NUMBERS] {
+        [to_bits(self.x), to_bits(self.y), to_bits(self.z)]
     }
-    Point::origin()
 }
 
-// The columns of the points.
-fn points_numbers(s: Supervisor) -> [u32; POINTS]
-    ensures { result ≡ points_columns written_form s }
-{
-    let mission = s.flight.mission;
-    let waypoints = s.waypoints;
-    let mut numbers = [0u32; POINTS];
-    let mut i = 0;
-    while i < Point::MAX_WAYPOINTS {
-        let p = point_in(waypoints, mission.wp_count, i);
-        put_numbers(&mut numbers, Point::NUMBERS * i, &point_numbers(p));
-        i += 1;
+impl Recorded<{ Zone::NUMBERS }> for Zone {
+    ghost columns = { zone_columns false 0 };
+
+    #[tactic(auto, unfolding(crate::specs::Columns::zone_columns))]
+    fn columns(self) -> [u32; Zone::NUMBERS] {
+        [
+            to_bits(self.center.x),
+            to_bits(self.center.y),
+            to_bits(self.center.z),
+            to_bits(self.radius),
+        ]
     }
-    numbers
 }
 
-// Centre and radius.
-fn zone_numbers(z: Zone) -> [u32; Zone::NUMBERS]
-    ensures { result ≡ zone_columns false 0 z }
+// The columns of places: those in use, and for every other what an unused place holds.
+fn rows<T: Recorded<W>, const W: usize, const N: usize>(
+    places: &[T; N],
+    count: u32,
+) -> [[u32; W]; N]
+    ensures { result ≡ first_of (λ i. T.columns (place_in T.empty T.empty places.now count i)) N }
 {
-    [
-        to_bits(z.center.x),
-        to_bits(z.center.y),
-        to_bits(z.center.z),
-        to_bits(z.radius),
-    ]
-}
-
-// Place i of the zones, and no zone where it is not in use.
-fn zone_in(zones: [Zone; Zone::MAX_KEEPOUT_ZONES], count: u32, i: usize) -> Zone
-    requires { i < max_keepout_zones }
-    ensures { result ≡ place_in no_place no_zone zones count i }
-{
-    if i < count as usize {
-        return zones[i];
+    let mut used = places[..N.min(count as usize)].iter();
+    let mut rows = [T::unused().columns(); N];
+    // No zip: a proof knows nothing of the rows after a loop that zips their iter_mut.
+    for row in rows.iter_mut() {
+        if let Some(place) = used.next() {
+            *row = place.columns();
+        }
     }
-    Zone::none()
-}
-
-// The columns of the zones.
-fn zones_numbers(zs: Zones) -> [u32; ZONES]
-    ensures { result ≡ zones_columns written_form zs }
-{
-    let zones = zs.zones;
-    let mut numbers = [0u32; ZONES];
-    let mut i = 0;
-    while i < Zone::MAX_KEEPOUT_ZONES {
-        let z = zone_in(zones, zs.zone_count, i);
-        put_numbers(&mut numbers, Zone::NUMBERS * i, &zone_numbers(z));
-        i += 1;
-    }
-    numbers
+    rows
 }
 
 // The state as the columns of a line of kind 9.
 pub fn record_columns(s: Supervisor) -> [u32; RECORD_FIELDS]
     ensures { result ≡ columns_of s }
 {
-    let zones = s.flight.zones;
-    let mut numbers = [0u32; RECORD_FIELDS];
-    put_numbers(&mut numbers, 0, &scalar_numbers(s));
-    put_numbers(&mut numbers, SCALARS, &points_numbers(s));
-    put_numbers(&mut numbers, SCALARS + POINTS, &zones_numbers(zones));
-    numbers
+    let points = rows(&s.waypoints, s.flight.mission.wp_count);
+    let zones = rows(&s.flight.zones.zones, s.flight.zones.zone_count);
+    joined(
+        &scalar_numbers(s),
+        points.as_flattened(),
+        zones.as_flattened(),
+    )
 }
 
 // The state by values: the array takes the columns. Under 160 places nothing is put and the refusal is 9.
@@ -235,10 +223,10 @@ pub fn save(s: Supervisor, numbers: &mut [u32]) -> Answered
     ensures array { numbers.new ≡ saved_over s numbers.old }
 {
     if numbers.len() < RECORD_ROOM {
-        return refused(s, Answer::SHORT_BUFFER);
+        return refused(s, Refusal::ShortBuffer);
     }
     let saved = s.save();
-    if saved.answer.refusal == Answer::ACCEPTED {
+    if saved.answer.outcome.is_ok() {
         put_numbers(numbers, 0, &record_columns(s));
     }
     saved

@@ -3,17 +3,9 @@ use native.Mathlib.Omega.{arith}
 use mathlib.Core.Bool.{Bool, true, false}
 use mathlib.Core.List.{List, [], ◌∷◌}
 use mathlib.Core.Path.{◌≡◌, refl}
-use borrow.Author.Tests.{eq-eqb}
-use Rattle.relay_fsm.specs.declared.Mode.{Mode}
-use Rattle.relay_fsm.specs.Mode.{mode_number}
 use Rattle.falcon_totals.specs.declared.DayTotals.{DayTotals}
 use Rattle.falcon_totals.specs.Totals.{no_totals, one_more_of, counted_of, totals_numbers}
 use Rattle.falcon_totals.specs.Counts.{Counted, ended_in, changes, count_of, up_to_limit, counts_of}
-
--- a call that is no tick and keeps the mode counts nothing
-pub uncounted : (t : DayTotals) (m : Mode) → counted_of t false m m ≡ t
-unfolding counted_of
-uncounted t m = rw (eq-eqb (mode_number m) (mode_number m) refl)
 
 -- the totals whose numbers these counts are
 abbrev pub totals_of : List Counted → DayTotals

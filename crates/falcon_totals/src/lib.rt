@@ -1,15 +1,14 @@
 // The day totals: how many ticks ended in each mode, and how many calls ended in another mode than they began in.
 #![tactic(auto)]
 
-ghost use Rattle.std.specs.Prelude.{◌≡◌, not};
-ghost use Rattle.relay_fsm.specs.Mode.{is_mode};
-ghost use Rattle.falcon_totals.specs.Totals.{no_totals, one_more_of, counted_of, totals_numbers};
+ghost use Rattle.std.specs.Prelude.{◌≡◌};
+ghost use Rattle.relay_math.specs.Small.{saturating_add_of};
+ghost use Rattle.falcon_totals.specs.Totals.{no_totals, counted_of, totals_numbers};
 
 use relay_fsm::Mode;
-use relay_math::saturating_add;
 
 // Since the opening: the ticks that ended in each mode, and the ticks, reports and commands that ended in another mode than they began in.
-#[derive(Clone, Copy)]
+#[derive(Clone, Copy, Default)]
 pub struct DayTotals {
     pub disarmed: u32,
     pub armed: u32,
@@ -22,14 +21,11 @@ pub struct DayTotals {
     pub changed: u32,
 }
 
-// One more change, where a call ended in another mode than it began in.
-fn changed_after(changed: u32, began: Mode, ended: Mode) -> u32
-    ensures { result ≡ one_more_of changed (not (is_mode began ended)) }
+// One more, up to the limit.
+fn count(total: &mut u32)
+    ensures { total.new ≡ saturating_add_of total.old 1 }
 {
-    if began.is(ended) {
-        return changed;
-    }
-    saturating_add(changed, 1)
+    *total = total.saturating_add(1);
 }
 
 impl DayTotals {
@@ -37,61 +33,40 @@ impl DayTotals {
     pub const FIELDS: usize = 9;
 
     // What an opening starts from.
+    #[tactic(auto, unfolding(crate::specs::Totals::no_totals))]
     pub fn new() -> DayTotals
         ensures { result ≡ no_totals }
     {
-        DayTotals {
-            disarmed: 0,
-            armed: 0,
-            takeoff: 0,
-            loiter: 0,
-            mission: 0,
-            land: 0,
-            rtl: 0,
-            terminated: 0,
-            changed: 0,
-        }
+        DayTotals::default()
     }
 
     // After an accepted tick, report or command that began and ended in these modes.
+    #[tactic(auto, unfolding(crate::specs::Totals::counted_of))]
     pub fn counted(self, ticked: bool, began: Mode, ended: Mode) -> DayTotals
         ensures { result ≡ counted_of self ticked began ended }
     {
         let mut next = self;
-        next.changed = changed_after(self.changed, began, ended);
+        if began != ended {
+            count(&mut next.changed);
+        }
         if !ticked {
             return next;
         }
         match ended {
-            Mode::Disarmed => {
-                next.disarmed = saturating_add(self.disarmed, 1);
-            }
-            Mode::Armed => {
-                next.armed = saturating_add(self.armed, 1);
-            }
-            Mode::Takeoff => {
-                next.takeoff = saturating_add(self.takeoff, 1);
-            }
-            Mode::Loiter => {
-                next.loiter = saturating_add(self.loiter, 1);
-            }
-            Mode::Mission => {
-                next.mission = saturating_add(self.mission, 1);
-            }
-            Mode::Land => {
-                next.land = saturating_add(self.land, 1);
-            }
-            Mode::Rtl => {
-                next.rtl = saturating_add(self.rtl, 1);
-            }
-            Mode::Terminated => {
-                next.terminated = saturating_add(self.terminated, 1);
-            }
+            Mode::Disarmed => count(&mut next.disarmed),
+            Mode::Armed => count(&mut next.armed),
+            Mode::Takeoff => count(&mut next.takeoff),
+            Mode::Loiter => count(&mut next.loiter),
+            Mode::Mission => count(&mut next.mission),
+            Mode::Land => count(&mut next.land),
+            Mode::Rtl => count(&mut next.rtl),
+            Mode::Terminated => count(&mut next.terminated),
         }
         next
     }
 
-    // The totals in the order of an answer line.
+    // The totals in the order of an answer line: a named function and no From, which would not say of what.
+    #[tactic(auto, unfolding(crate::specs::Totals::totals_numbers))]
     pub fn numbers(self) -> [u32; DayTotals::FIELDS]
         ensures { result ≡ totals_numbers self }
     {

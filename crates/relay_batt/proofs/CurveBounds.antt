@@ -1,9 +1,10 @@
 -- The curve is in 0..1 for every float, and 0 up to 3.50 V and for what is not finite.
 -- On a segment it is at most its value at the segment's end, since each operation grows with the volts. What is asked of a segment is a list of tests
 -- that are computed. Assumes nothing.
-use Rattle.std.proofs.Common.{◌≡◌, ℕ, ◌*◌, Bool, true, false, cond, ◌&&◌, ◌||◌, T, List, [], ◌∷◌, refl, zero-le, zero-mul, arith}
+use Rattle.std.proofs.Common.{◌≡◌, ◌*◌, Bool, true, false, cond, ◌&&◌, T, List, [], ◌∷◌, refl, zero-le, zero-mul, le-ltb}
 use denote.Floats.{is_true}
-use lib.Ieee.{Float, nan, inf, fin, binary32, of_bits, up, down, add, sub, mul, div, lt, le, eq}
+use Rattle.std.proofs.lemmas.Float.{le_of_lt, lt_of_not-le, le_of_not-lt, le_trans, lt_of_lt_of_le, T_from_false}
+use lib.Ieee.{Float, nan, inf, fin, binary32, of_bits, up, down, add, sub, mul, div, lt, le}
 use lib.Ieee.Fits.{and_l, and_r}
 use lib.Ieee.Scale.{finite}
 use Rattle.relay_math.specs.Small.{clamp_of}
@@ -11,32 +12,23 @@ use Rattle.relay_batt.specs.Bounds.{Within, all}
 use Rattle.relay_batt.specs.Curve as curve
 use Rattle.relay_batt.specs.Curve.{one, f32, cell_max, sanitize_of, knots, between, walk, table_of, ocv_soc_cell_of}
 use Rattle.relay_batt.specs.declared.curve.Knot.{Knot}
-use Rattle.relay_batt.proofs.Order.{each, le_test, le_of_not_lt, within_finite, sanitize_within}
-use Rattle.relay_batt.proofs.NonNeg.{NonNeg, plus, nonneg, positive, nonneg_is, positive_is, positive_nonneg, nonneg_finite, le_trans_nonneg, sub_grows, mul_grows, div_grows, add_grows}
+use Rattle.relay_batt.proofs.Order.{each, number, within_finite, sanitize_within}
+use Rattle.relay_batt.proofs.NonNeg.{NonNeg, plus, nonneg, positive, nonneg_is, positive_is, positive_nonneg, nonneg_finite, sub_grows, mul_grows, div_grows, add_grows}
 
 -- ---- the order
 pub zero_le_nonneg : {x : Float} → NonNeg x → T (le curve.zero x)
-unfolding of_bits le
-zero_le_nonneg (plus m e) = le_test (0 * down e) (m * up e * 1) true tt (rw (zero-mul (down e)) zero-le)
-
-or_false : (a b : Bool) → a || b ≡ false → a ≡ false
-or_false true b e = e
-or_false false b e = refl
-
-not_both : (b : Bool) → b ≡ false → T b → ⊥
-not_both true e t = let z : ◌≡◌ {A = ℕ} 0 1 = cc in omega arith
-not_both false e t = t
+unfolding of_bits lt
+zero_le_nonneg {x} (plus m e) = le_of_not-lt x curve.zero (number x tt) (number curve.zero tt) (T_from_false _ (le-ltb (m * up e * 1) (0 * down e) (rw (zero-mul (down e)) zero-le)))
 
 le_of_not_le : (v k : Float) → T (finite v) → T (finite k) → le v k ≡ false → T (le k v)
-unfolding le
-le_of_not_le v k f g e = le_of_not_lt v k f g (or_false (lt v k) _ e)
+le_of_not_le v k f g e = le_of_lt k v (lt_of_not-le v k (number v f) (number k g) (T_from_false (le v k) e))
 
 -- a finite float that is not at most 0 or more has the sign +
 nonneg_above : (v : Float) {k : Float} → T (finite v) → NonNeg k → le v k ≡ false → NonNeg v
 unfolding lt
 nonneg_above nan f p e = absurd f
 nonneg_above (inf s) f p e = absurd f
-nonneg_above (fin true m e) f (plus n d) h = absurd (not_both (le (fin true m e) (fin false n d)) h (le_of_not_lt (fin false n d) (fin true m e) tt tt refl))
+nonneg_above (fin true m e) f (plus n d) h = absurd (lt_of_not-le (fin true m e) (fin false n d) (number (fin true m e) tt) (number (fin false n d) tt) (T_from_false _ h))
 nonneg_above (fin false m e) f p h = plus m e
 
 -- ---- a segment
@@ -55,10 +47,6 @@ tests a b =
     ∷ nonneg (between a b b.v)
     ∷ le (between a b b.v) one
     ∷ []
-
-one_nonneg : NonNeg one
-unfolding of_bits
-one_nonneg = plus _ _
 
 one_within : Within curve.zero one one
 unfolding of_bits le
@@ -84,7 +72,7 @@ segment_within a b t {v} p h k =
     let s2 = mul_grows binary32 (nonneg_is rise (test 3)) s1.good wide0 s1.under product in
     let s3 = div_grows binary32 s2.good product wide s2.under quotient in
     let s4 = add_grows binary32 (nonneg_is a.s (test 2)) s3.good quotient s3.under last in
-    record { low = zero_le_nonneg s4.good; high = le_trans_nonneg s4.good last one_nonneg s4.under (test 8) }
+    record { low = zero_le_nonneg s4.good; high = le_trans _ _ _ s4.under (test 8) }
 
 -- ---- the table
 abbrev good_from : Knot → List Knot → Bool
@@ -149,22 +137,10 @@ zero_empty : T (le curve.zero empty)
 unfolding of_bits le
 zero_empty = tt
 
-lt_le : (x y : Float) → T (lt x y) → T (le x y)
-unfolding le
-lt_le x y t = go (lt x y) t
-  where
-    go : (b : Bool) → T b → T (b || eq x y)
-    go true u = tt
-    go false u = absurd u
-
 -- above 5 V is not at most 3.50 V
 not_empty : (v : Float) → T (lt cell_max v) → T (le v empty) → ⊥
-unfolding lt le of_bits
-not_empty nan h k = h
-not_empty (inf true) h k = h
-not_empty (inf false) h k = k
-not_empty (fin true m e) h k = h
-not_empty (fin false m e) h k = le_trans_nonneg (nonneg_is cell_max tt) (plus m e) (nonneg_is empty tt) (lt_le cell_max (fin false m e) h) k
+unfolding lt of_bits
+not_empty v h k = lt_of_lt_of_le cell_max v empty h k
 
 cut_empty : (v : Float) → T (le v empty) → T (le (clamp_of v curve.zero cell_max) empty)
 unfolding clamp_of

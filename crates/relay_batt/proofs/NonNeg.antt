@@ -1,14 +1,14 @@
 -- Finite floats with the sign +, zero included: their order is that of fractions, and differences, products, quotients and sums grow with
 -- one operand as long as the larger result is finite. Assumes nothing.
-use Rattle.std.proofs.Common.{◌≡◌, ℕ, zero, suc, ◌+◌, ◌-◌, ◌*◌, ◌^◌, ◌<◌, ◌≤◌, Bool, true, false, cond, not, ◌&&◌, ◌||◌, T, eqb, ltb, ◌⊎◌, ℤ, sym, refl, ◌∙◌, subst, inl, inr, le_trans, le_of_eq, le_of_lt, mul-le-mul_right, zero-lt-suc, mul_assoc, mul_comm, add-mul, mul-pos, not-le_of_lt, mul_left_comm, arith, eqb→eq, ltb→lt}
+use Rattle.std.proofs.Common.{◌≡◌, ℕ, zero, suc, ◌+◌, ◌-◌, ◌*◌, ◌^◌, ◌<◌, ◌≤◌, Bool, true, false, cond, not, ◌&&◌, ◌||◌, T, eqb, ltb, ℤ, sym, refl, ◌∙◌, subst, le_trans, le_of_eq, le_of_lt, mul-le-mul_right, zero-lt-suc, mul_assoc, mul_comm, add-mul, mul-pos, not-le_of_lt, mul_left_comm, arith, eqb→eq, ltb→lt}
 use native.Mathlib.Nat.{mul-sub, mul-mul-mul_comm}
 use lib.Dec.{eqb-suc-zero}
 use lib.Ieee.{Float, nan, inf, fin, Format, prec, low, up, down, odd, units, round, sum, add, sub, mul, div, le}
 use lib.Ieee.Fits.{up_pos, down_pos, and_l, round_is}
 use lib.Ieee.Order.{round_mono, drop, kept}
-use lib.Ieee.Positive.{num, den, den_pos, through}
+use lib.Ieee.Positive.{num, den, den_pos}
 use lib.Ieee.Scale.{finite, overflow}
-use Rattle.relay_batt.proofs.Order.{le_test}
+use Rattle.std.proofs.lemmas.Float.{le_trans as le_trans_float}
 
 pub data NonNeg : Float → Type 0 where
   plus : (m : ℕ) (e : ℤ) → NonNeg (fin false m e)
@@ -47,23 +47,16 @@ pub nonneg_finite : {x : Float} → NonNeg x → T (finite x)
 nonneg_finite (plus m e) = tt
 
 -- ---- the order
-or_split : (a b : Bool) → T (a || b) → T a ⊎ T b
-or_split true b t = inl tt
-or_split false b t = inr t
-
-lt_or_eq : (a b : ℕ) → T (ltb a b || (eqb a b && true)) → a ≤ b
-lt_or_eq a b t = elim (or_split (ltb a b) (eqb a b && true) t) [ inl u ↦ le_of_lt (ltb→lt a b u) | inr u ↦ le_of_eq (eqb→eq a b (and_l (eqb a b) true u)) ]
-
 pub le→cross : {x y : Float} → NonNeg x → NonNeg y → T (le x y) → num x * den y ≤ num y * den x
 unfolding le
-le→cross (plus m e) (plus n d) h = lt_or_eq (m * up e * down d) (n * up d * down e) h
-
-pub cross→le : {x y : Float} → NonNeg x → NonNeg y → num x * den y ≤ num y * den x → T (le x y)
-unfolding le
-cross→le (plus m e) (plus n d) h = le_test (m * up e * down d) (n * up d * down e) true tt h
-
-pub le_trans_nonneg : {x y z : Float} → NonNeg x → NonNeg y → NonNeg z → T (le x y) → T (le y z) → T (le x z)
-le_trans_nonneg {x} {y} {z} p q r h k = cross→le p r (through (num x) (num y) (num z) (den x) (den y) (den z) (den_pos y) (le→cross p q h) (le→cross q r k))
+le→cross (plus m e) (plus n d) h = le_of_test (m * up e * down d) (n * up d * down e) h
+  where
+    le_of_test : (a b : ℕ) → T (ltb a b || (eqb a b && true)) → a ≤ b
+    le_of_test a b t = go (ltb a b) (ltb→lt a b) t
+      where
+        go : (c : Bool) → (T c → a < b) → T (c || (eqb a b && true)) → a ≤ b
+        go true l u = le_of_lt (l tt)
+        go false l u = le_of_eq (eqb→eq a b (and_l (eqb a b) true u))
 
 -- ---- a fraction rounded with the sign +
 odd_nonneg : (d q k l : ℕ) → NonNeg (odd d false q k l)
@@ -124,7 +117,7 @@ fewer p q r s h e = omega arith
 -- x / p - k / l ≤ y / q - k / l for x / p ≤ y / q
 minus : (x p y q k l : ℕ) → x * q ≤ y * p → (x * l - k * p) * (q * l) ≤ (y * l - k * q) * (p * l)
 minus x p y q k l h =
-    let a : q * l * (x * l) ≤ p * l * (y * l) = simp (mul_assoc, mul_comm, mul_left_comm) (simp (mul_assoc, mul_comm, mul_left_comm) at (mul-le-mul_right (l * l) h)) in
+    let a : q * l * (x * l) ≤ p * l * (y * l) = simp (mul_assoc, mul_left_comm) (simp (mul_assoc, mul_comm) at (mul-le-mul_right (l * l) h)) in
     let b : p * l * (k * q) ≡ q * l * (k * p) = simp (mul_assoc, mul_comm, mul_left_comm) in
     le_trans (le_of_eq (mul_comm (x * l - k * p) (q * l) ∙ mul-sub (q * l) (x * l) (k * p)))
     (le_trans (fewer (q * l * (x * l)) (q * l * (k * p)) (p * l * (y * l)) (p * l * (k * q)) a b)
@@ -132,7 +125,7 @@ minus x p y q k l h =
 
 pub sub_grows : (f : Format) {x y k : Float} → NonNeg x → NonNeg y → NonNeg k → T (le k x) → T (le x y) → NonNeg (sub f y k) → Kept (sub f x k) (sub f y k)
 sub_grows f {x} {y} {k} p q r g h z =
-    let b = sub_is f q r (le_trans_nonneg r p q g h) in
+    let b = sub_is f q r (le_trans_float _ _ _ g h) in
     subst (λ (w : Float). Kept w (sub f y k)) (sym (sub_is f p r g))
     (subst (λ (w : Float). Kept (round f false (num x * den k - num k * den x) (den x * den k)) w) (sym b)
     (rounded f (num x * den k - num k * den x) (den x * den k) (num y * den k - num k * den y) (den y * den k) (mul-pos (den_pos x) (den_pos k)) (mul-pos (den_pos y) (den_pos k))
@@ -146,7 +139,7 @@ pub num_pos : {k : Float} → Positive k → 0 < num k
 num_pos (above n d) = mul-pos (zero-lt-suc n) (up_pos d)
 
 over : (x p y q n d : ℕ) → x * q ≤ y * p → x * d * (n * q) ≤ y * d * (n * p)
-over x p y q n d h = simp (mul_assoc, mul_comm, mul_left_comm) (simp (mul_assoc, mul_comm, mul_left_comm) at (mul-le-mul_right (d * n) h))
+over x p y q n d h = simp (mul_assoc, mul_comm, mul_left_comm) (simp (mul_assoc, mul_comm) at (mul-le-mul_right (d * n) h))
 
 pub div_grows : (f : Format) {x y k : Float} → NonNeg x → NonNeg y → Positive k → T (le x y) → NonNeg (div f y k) → Kept (div f x k) (div f y k)
 div_grows f {x} {y} {k} p q r h z =

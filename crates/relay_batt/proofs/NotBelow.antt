@@ -1,6 +1,8 @@
 -- Volts of 0 to 60 that are at least the opening's, itself not negative, are not below it, whatever the cell count. Assumes nothing.
-use Rattle.std.proofs.Common.{◌≡◌, ℕ, zero, suc, ◌*◌, ◌^◌, ◌<◌, ◌≤◌, false, T, sym, ap, ◌∙◌, subst, le_trans, le_of_eq, zero-lt-suc, mul_assoc, mul_comm, mul-le-mul, mul-pos, zero-mul, mul-one, not-le_of_lt, arith, lit<, lit≤, le-ltb}
-use lib.Dec.{eqb-suc-zero}
+use Rattle.std.proofs.Common.{◌≡◌, ℕ, zero, suc, ◌*◌, ◌^◌, ◌<◌, ◌≤◌, false, T, sym, ap, ◌∙◌, subst, le_trans, le_of_eq, zero-lt-suc, mul_assoc, mul_comm, mul-le-mul, mul-pos, zero-mul, mul-one, not-le_of_lt, arith, lit<, lit≤}
+use Rattle.std.proofs.lemmas.Float.{lt_irrefl, lt_of_lt_of_le}
+use lib.Dec.{eqb-suc-zero, not_T}
+use lib.Ieee.Bits.{is_false}
 use lib.Ieee.{Float, binary32, round, of_bits, of_int, div, lt, le}
 use lib.Ieee.Fits.{down_pos}
 use lib.Ieee.Order.{round_mono}
@@ -63,9 +65,8 @@ per_cell_kept {k} {volts} a p h =
     (over_at_least (num volts) (den volts) (num k) (den k) 60 (at_most (num volts) (den volts) (le→cross p (nonneg_is v_max tt) h)) a.size) highest_kept).good
 
 -- ---- the comparison
-le_not_lt : {x y : Float} → NonNeg x → NonNeg y → T (le x y) → lt y x ≡ false
-unfolding lt
-le_not_lt (plus m e) (plus n d) h = le-ltb _ _ (le→cross (plus m e) (plus n d) h)
+le_not_lt : (x y : Float) → T (le x y) → lt y x ≡ false
+le_not_lt x y h = is_false (lt y x) (not_T (lt y x) (λ (t : T (lt y x)). lt_irrefl y (lt_of_lt_of_le y x y t h)))
 
 -- one count divides both
 pub at_least_not_below :
@@ -77,4 +78,4 @@ at_least_not_below cells opening volts c o v m h =
     let q = nonneg_is volts v in
     let z = per_cell_kept a q m in
     let k = div_grows binary32 (nonneg_is opening o) q a.good h z in
-    le_not_lt k.good z k.under
+    le_not_lt _ _ k.under

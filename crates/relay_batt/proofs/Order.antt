@@ -1,78 +1,23 @@
--- The order of finite floats: it is total, and a cut to lo..hi ends between lo and hi. Assumes nothing.
-use Rattle.std.proofs.Common.{◌≡◌, ℕ, zero, suc, ◌+◌, ◌*◌, ◌≤◌, Bool, true, false, cond, ◌&&◌, ◌||◌, T, eqb, ltb, List, [], ◌∷◌, get_or, sym, refl, subst, inl, inr, eq-or-lt_of_le, arith, lt→ltb, nltb→le}
-use lib.Dec.{eqb_refl}
-use lib.Ieee.{Float, nan, inf, fin, up, down, below, level, lt, le}
+-- A cut to lo..hi ends between lo and hi, and what lies between finite floats is finite. Assumes nothing.
+use Rattle.std.proofs.Common.{◌≡◌, ℕ, zero, suc, Bool, true, false, cond, T, List, [], ◌∷◌, get_or, refl}
+use Rattle.std.proofs.lemmas.Float.{le_refl, le_of_not-lt, T_from_false}
+use Rattle.std.specs.Float.{NotNan}
+use lib.Ieee.{Float, nan, inf, fin, is_nan, lt, le}
 use lib.Ieee.Fits.{and_l, and_r}
 use lib.Ieee.Scale.{finite}
 use Rattle.relay_math.specs.Small.{clamp_of}
 use Rattle.relay_batt.specs.Curve.{sanitize_of}
 use Rattle.relay_batt.specs.Bounds.{Within, all}
 
-or_l : (a b : Bool) → T a → T (a || b)
-or_l true b t = tt
-or_l false b t = absurd t
-
-or_r : (a b : Bool) → T b → T (a || b)
-or_r true b t = tt
-or_r false b t = t
-
-same : (a : ℕ) (b : Bool) → T b → T (eqb a a && b)
-same a b t = go (eqb a a) (eqb_refl a)
-  where
-    go : (x : Bool) → T x → T (x && b)
-    go true u = t
-    go false u = absurd u
-
--- a ≤ b, as the comparison of two floats of one sign tests it
-pub le_test : (a b : ℕ) (z : Bool) → T z → a ≤ b → T (ltb a b || (eqb a b && z))
-le_test a b z t h =
-    elim (eq-or-lt_of_le h) [
-      | inl p ↦ or_r (ltb a b) (eqb a b && z) (subst (λ (x : ℕ). T (eqb a x && z)) p (same a z t))
-      | inr q ↦ or_l (ltb a b) (eqb a b && z) (lt→ltb a b q)
-    ]
-
-none_both : (a b : ℕ) → a + b ≤ 0 → (a ≡ 0) × (b ≡ 0)
-none_both a b h = (omega arith, omega arith)
-
-false_le : (a b : ℕ) → ltb a b ≡ false → b ≤ a
-false_le a b e = nltb→le a b (rw e tt)
-
--- ---- not below is above or level
-above_or_level : (s : Bool) (a : ℕ) (t : Bool) (b : ℕ) → below s a t b ≡ false → T (below t b s a || level t b s a)
-above_or_level false a false b e = le_test b a true tt (false_le a b e)
-above_or_level false a true b e = go (ltb 0 (b + a)) refl
-  where
-    go : (x : Bool) → ltb 0 (b + a) ≡ x → T (ltb 0 (b + a) || (eqb b a && (false || eqb b 0)))
-    go true p = rw p tt
-    go false p =
-        let z = none_both b a (false_le 0 (b + a) p) in
-        or_r (ltb 0 (b + a)) (eqb b a && (false || eqb b 0)) (subst (λ (x : ℕ). T (eqb b x && eqb b 0)) (sym z.1) (subst (λ (x : ℕ). T (eqb x 0 && eqb x 0)) (sym z.0) tt))
-above_or_level true a false b e =
-    let z = none_both a b (false_le 0 (a + b) e) in
-    subst (λ (x : ℕ). T (false || (eqb b x && (false || eqb b 0)))) (sym z.0) (subst (λ (x : ℕ). T (false || (eqb x 0 && (false || eqb x 0)))) (sym z.1) tt)
-above_or_level true a true b e = flip (false_le b a e)
-  where
-    flip : a ≤ b → T (ltb a b || (eqb b a && true))
-    flip h =
-        elim (eq-or-lt_of_le h) [
-          | inl p ↦ or_r (ltb a b) (eqb b a && true) (subst (λ (x : ℕ). T (eqb x a && true)) p (same a true tt))
-          | inr q ↦ or_l (ltb a b) (eqb b a && true) (lt→ltb a b q)
-        ]
+-- a finite float is a number
+pub number : (x : Float) → T (finite x) → NotNan x
+unfolding is_nan
+number nan p = absurd p
+number (inf s) p = absurd p
+number (fin s m e) p = tt
 
 pub le_of_not_lt : (x y : Float) → T (finite x) → T (finite y) → lt x y ≡ false → T (le y x)
-unfolding lt le
-le_of_not_lt nan y p q e = absurd p
-le_of_not_lt (inf s) y p q e = absurd p
-le_of_not_lt (fin s m e) nan p q h = absurd q
-le_of_not_lt (fin s m e) (inf t) p q h = absurd q
-le_of_not_lt (fin s m e) (fin t n d) p q h = above_or_level s (m * up e * down d) t (n * up d * down e) h
-
-pub le_refl_finite : (x : Float) → T (finite x) → T (le x x)
-unfolding le
-le_refl_finite nan p = absurd p
-le_refl_finite (inf s) p = absurd p
-le_refl_finite (fin true m e) p = let a = m * up e * down e in or_r (ltb a a) (eqb a a && true) (same a true tt)
-le_refl_finite (fin false m e) p = let a = m * up e * down e in or_r (ltb a a) (eqb a a && true) (same a true tt)
+le_of_not_lt x y p q e = le_of_not-lt x y (number x p) (number y q) (T_from_false (lt x y) e)
 
 -- what lies between two finite floats is finite
 pub within_finite : (lo hi x : Float) → T (finite lo) → T (finite hi) → Within lo hi x → T (finite x)
@@ -92,8 +37,8 @@ unfolding clamp_of
 clamp_within x lo hi p q r h = go (lt x lo) (lt hi x) refl refl
   where
     go : (a b : Bool) → lt x lo ≡ a → lt hi x ≡ b → Within lo hi (cond a lo (cond b hi x))
-    go true b e f = record { low = le_refl_finite lo q; high = h }
-    go false true e f = record { low = h; high = le_refl_finite hi r }
+    go true b e f = record { low = le_refl lo (number lo q); high = h }
+    go false true e f = record { low = h; high = le_refl hi (number hi r) }
     go false false e f = record { low = le_of_not_lt x lo p q e; high = le_of_not_lt hi x r p f }
 
 -- `sanitize` ends between its ends, whatever is given

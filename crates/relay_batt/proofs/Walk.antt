@@ -1,27 +1,34 @@
--- The walk along the table, by the place that it has reached. Assumes nothing.
-use Rattle.std.proofs.Common.{◌≡◌, ℕ, suc, ◌+◌, ◌-◌, ◌<◌, true, false, List, length, get_or, drop, refl, add-one, arith, drop-cons}
+-- The walk along the table, by the knots that are left of it. Assumes nothing.
+use Rattle.std.proofs.Common.{◌≡◌, ◌<◌, ◌≤◌, true, false, List, [], ◌∷◌, length, get_or, take, drop, refl, arith}
 use lib.Ieee.{Float, nan, le}
-use Rattle.relay_batt.specs.Curve.{one, knots, between, walk}
+use Rattle.relay_batt.specs.Curve.{one, between, walk}
 use Rattle.relay_batt.specs.declared.curve.Knot.{Knot}
 
+-- the charge that is found from there on
+abbrev pub rest : Float → List Knot → Float
+rest v [] = one
+rest v (a ∷ l) = walk v a l
+
 -- what the code reads beyond a table
-abbrev pub no_knot : Knot
+abbrev no_knot : Knot
 no_knot = record { v = nan; s = nan }
 
--- the charge that is found from place i on
-abbrev pub rest : List Knot → Float → ℕ → Float
-rest l v i = walk v (get_or l (i - 1) no_knot) (drop i l)
-
-pub found : (l : List Knot) (v : Float) (i : ℕ) → i < length l → le v (get_or l i no_knot).v ≡ true → rest l v i ≡ between (get_or l (i - 1) no_knot) (get_or l i no_knot) v
+-- the first two knots of l end the walk
+pub found : (v : Float) (l : List Knot) → 2 ≤ length l → le v (get_or (take 2 l) 1 no_knot).v ≡ true → between (get_or (take 2 l) 0 no_knot) (get_or (take 2 l) 1 no_knot) v ≡ rest v l
 unfolding walk
-found l v i h e = simp (drop-cons l i no_knot h, e)
+found v [] h e = absurd (omega arith)
+found v (a ∷ []) h e = absurd (omega arith)
+found v (a ∷ (b ∷ l)) h e = simp e
 
-pub passed : (l : List Knot) (v : Float) (i : ℕ) → i < length l → le v (get_or l i no_knot).v ≡ false → rest l v i ≡ rest l v (i + 1)
+-- or they do not
+pub passed : (v : Float) (l : List Knot) → 2 ≤ length l → le v (get_or (take 2 l) 1 no_knot).v ≡ false → rest v (drop 1 l) ≡ rest v l
 unfolding walk
-passed l v i h e =
-    let back : suc i - 1 ≡ i = omega arith in
-    simp (drop-cons l i no_knot h, e, add-one i, back)
+passed v [] h e = absurd (omega arith)
+passed v (a ∷ []) h e = absurd (omega arith)
+passed v (a ∷ (b ∷ l)) h e = simp e
 
-pub ended : (v : Float) → rest knots v 8 ≡ one
-unfolding walk knots
-ended v = refl
+pub ended : (v : Float) (l : List Knot) → length l < 2 → one ≡ rest v l
+unfolding walk
+ended v [] h = refl
+ended v (a ∷ []) h = refl
+ended v (a ∷ (b ∷ l)) h = absurd (omega arith)

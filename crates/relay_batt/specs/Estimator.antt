@@ -1,5 +1,5 @@
 -- `BattState` and `BatteryEstimator` of relay-batt.
-use Rattle.std.specs.Prelude.{Bool, true, false, cond, not, ◌&&◌, Float}
+use Rattle.std.specs.Prelude.{Bool, true, false, cond, not, ◌&&◌, Option, Some, None, Float}
 use Rattle.std.specs.Float.{binary32}
 use Rattle.std.specs.Float.Ieee.{add, sub, mul, div, neg, lt, le}
 use Rattle.relay_batt.specs.Curve.{f32, zero, one, sanitize_of, ocv_soc_cell_of}
@@ -124,6 +124,10 @@ soc_of cfg consumed rest =
 abbrev showing : BatteryEstimator → Float → Float → Float → Float → Bool → Updated
 showing e v rest i soc degraded = record { est = e; state = shown_of e v rest i soc degraded }
 
+-- the latches `dt` seconds on, each below its threshold or not
+abbrev pub latched_of : BatteryEstimator → Float → Bool → Bool → BatteryEstimator
+latched_of e dt low critical = record e { low = trip_of e.low dt low e.cfg.debounce_s; critical = trip_of e.critical dt critical e.cfg.debounce_s }
+
 -- `update` with amps, on numbers that are cut to their ranges
 unfoldable pub with_amps_of : BatteryEstimator → Float → Float → Float → Updated
 with_amps_of e dt v i =
@@ -180,3 +184,8 @@ update_amps_of e dt volts amps = with_amps_of e (cut_dt dt) (cut_volts volts) (c
 -- `update` with `None`
 unfoldable pub update_volts_of : BatteryEstimator → Float → Float → Updated
 update_volts_of e dt volts = volts_only_of e (cut_dt dt) (cut_volts volts)
+
+-- `update`
+abbrev pub read_of : BatteryEstimator → Float → Float → Option Float → Updated
+read_of e dt volts (Some amps) = update_amps_of e dt volts amps
+read_of e dt volts None = update_volts_of e dt volts

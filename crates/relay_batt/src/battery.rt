@@ -7,15 +7,15 @@ use crate::config::BattConfig;
 use crate::estimator::{BattState, BatteryEstimator, Updated};
 
 // What the monitor read: nothing, volts, or volts with amps.
-#[derive(Clone, Copy)]
+#[derive(Clone, Copy, Debug)]
 pub enum Reading {
     Nothing,
     Volts(f32),
     VoltsAmps { volts: f32, amps: f32 },
 }
 
-// `missing_s` is the silence, `present` whether the last tick had a reading, `seen` whether any had.
-#[derive(Clone, Copy)]
+// `missing_s` is the silence, `present` whether the last tick had a reading, `seen` whether any had. No Option of the silence: the record writes it before the first reading too.
+#[derive(Clone, Copy, Debug)]
 pub struct Battery {
     pub est: BatteryEstimator,
     pub state: BattState,
@@ -28,14 +28,13 @@ impl Battery {
     pub const BATT_SILENCE_S: f32 = 1.0;
 
     // Before the first reading.
+    #[tactic(auto, unfolding(crate::specs::Battery::opened_of, crate::specs::Estimator::none_of))]
     pub fn new(cfg: BattConfig) -> Battery
         ensures { result ≡ opened_of cfg }
     {
-        let est = BatteryEstimator::new(cfg);
-        let state = BattState::none();
         Battery {
-            est,
-            state,
+            est: BatteryEstimator::new(cfg),
+            state: BattState::default(),
             missing_s: 0.0,
             present: false,
             seen: false,
@@ -43,14 +42,13 @@ impl Battery {
     }
 
     // After a reading of volts.
+    #[tactic(auto, unfolding(crate::specs::Battery::heard_of))]
     fn heard(updated: Updated) -> Battery
         ensures { result ≡ heard_of updated }
     {
-        let est = updated.est;
-        let state = updated.state;
         Battery {
-            est,
-            state,
+            est: updated.est,
+            state: updated.state,
             missing_s: 0.0,
             present: true,
             seen: true,
@@ -58,30 +56,29 @@ impl Battery {
     }
 
     // `dt` seconds on, with what the monitor read.
+    #[tactic(auto, unfolding(crate::specs::Battery::update_of))]
     pub fn update(self, dt: f32, reading: Reading) -> Battery
         ensures { result ≡ update_of self dt reading }
     {
-        let est = self.est;
-        match reading {
+        let (volts, amps) = match reading {
             Reading::Nothing => {
-                let state = self.state;
-                Battery {
-                    est,
-                    state,
+                return Battery {
                     missing_s: self.missing_s + dt,
                     present: false,
-                    seen: self.seen,
-                }
+                    ..self
+                };
             }
-            Reading::Volts(volts) => Self::heard(est.update_volts(dt, volts)),
-            Reading::VoltsAmps { volts, amps } => Self::heard(est.update_amps(dt, volts, amps)),
-        }
+            Reading::Volts(volts) => (volts, None),
+            Reading::VoltsAmps { volts, amps } => (volts, Some(amps)),
+        };
+        Self::heard(self.est.update(dt, volts, amps))
     }
 
     // Silent for too long after a reading was had.
+    #[tactic(auto, unfolding(crate::specs::Battery::lost_of))]
     pub fn lost(self) -> bool
         ensures { result ≡ lost_of self }
     {
-        self.seen & (self.missing_s > Self::BATT_SILENCE_S)
+        self.seen && self.missing_s > Self::BATT_SILENCE_S
     }
 }

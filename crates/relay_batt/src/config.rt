@@ -6,7 +6,7 @@ ghost use Rattle.relay_batt.specs.Config.{default_of, for_pack_of, for_opening_v
 use crate::curve::sanitize;
 
 // Capacity in mAh, cells in series, ohms of the whole pack; thresholds of charge, of volts a cell, and of seconds.
-#[derive(Clone, Copy)]
+#[derive(Clone, Copy, Debug)]
 pub struct BattConfig {
     pub capacity_mah: f32,
     pub cells: u32,
@@ -16,6 +16,25 @@ pub struct BattConfig {
     pub low_v_cell_fallback: f32,
     pub crit_v_cell_fallback: f32,
     pub debounce_s: f32,
+}
+
+// The built-in pack.
+impl Default for BattConfig {
+    ghost is_default = { λ c. c ≡ default_of };
+
+    #[tactic(auto, unfolding(crate::specs::Config::default_of))]
+    fn default() -> BattConfig {
+        BattConfig {
+            capacity_mah: BattConfig::CAPACITY_MAH,
+            cells: BattConfig::CELLS,
+            r_internal: BattConfig::R_INTERNAL,
+            low_soc: BattConfig::LOW_SOC,
+            crit_soc: BattConfig::CRIT_SOC,
+            low_v_cell_fallback: BattConfig::LOW_V_CELL_FALLBACK,
+            crit_v_cell_fallback: BattConfig::CRIT_V_CELL_FALLBACK,
+            debounce_s: BattConfig::DEBOUNCE_S,
+        }
+    }
 }
 
 impl BattConfig {
@@ -46,32 +65,21 @@ impl BattConfig {
 
     pub const CRIT_BELOW_LOW_V: f32 = 0.15;
 
-    // The built-in pack.
-    pub fn default() -> BattConfig
-        ensures { result ≡ default_of }
-    {
-        BattConfig {
-            capacity_mah: Self::CAPACITY_MAH,
-            cells: Self::CELLS,
-            r_internal: Self::R_INTERNAL,
-            low_soc: Self::LOW_SOC,
-            crit_soc: Self::CRIT_SOC,
-            low_v_cell_fallback: Self::LOW_V_CELL_FALLBACK,
-            crit_v_cell_fallback: Self::CRIT_V_CELL_FALLBACK,
-            debounce_s: Self::DEBOUNCE_S,
-        }
-    }
-
     // The built-in pack with so many cells, and the thresholds that an opening's volts give it.
+    #[tactic(auto, unfolding(crate::specs::Config::for_pack_of, crate::specs::Config::default_of))]
     pub fn for_pack(cells: u32, low_batt_v: f32) -> BattConfig
         ensures { result ≡ for_pack_of cells low_batt_v }
     {
-        let mut cfg = Self::default();
-        cfg.cells = cells;
+        let cfg = BattConfig {
+            cells,
+            ..Self::default()
+        };
         let low = cfg.per_cell(low_batt_v);
-        cfg.low_v_cell_fallback = low;
-        cfg.crit_v_cell_fallback = low - Self::CRIT_BELOW_LOW_V;
-        cfg
+        BattConfig {
+            low_v_cell_fallback: low,
+            crit_v_cell_fallback: low - Self::CRIT_BELOW_LOW_V,
+            ..cfg
+        }
     }
 
     // The built-in pack with the thresholds that an opening's volts give.
@@ -82,6 +90,7 @@ impl BattConfig {
     }
 
     // The capacity that is counted with.
+    #[tactic(auto, unfolding(crate::specs::Config::capacity_of))]
     pub fn capacity(self) -> f32
         ensures { result ≡ capacity_of self }
     {
@@ -94,6 +103,7 @@ impl BattConfig {
     }
 
     // The number of cells, at least one.
+    #[tactic(auto, unfolding(crate::specs::Config::cells_of))]
     fn cell_count(self) -> f32
         ensures { result ≡ cells_of self.cells }
     {
@@ -104,6 +114,7 @@ impl BattConfig {
     }
 
     // Volts of the pack as volts a cell.
+    #[tactic(auto, unfolding(crate::specs::Config::per_cell_of))]
     pub fn per_cell(self, volts: f32) -> f32
         ensures { result ≡ per_cell_of self.cells volts }
     {

@@ -6,6 +6,7 @@ ghost use Rattle.relay_batt.specs.Curve.{sanitize_of, between, ocv_soc_cell_of};
 use relay_math::{clamp, is_finite};
 
 // Cut to lo..hi, with a default for what is not finite.
+#[tactic(auto, unfolding(crate::specs::Curve::sanitize_of))]
 pub fn sanitize(x: f32, lo: f32, hi: f32, nan_default: f32) -> f32
     ensures { result ≡ sanitize_of x lo hi nan_default }
 {
@@ -16,7 +17,7 @@ pub fn sanitize(x: f32, lo: f32, hi: f32, nan_default: f32) -> f32
 }
 
 // A pair of the curve: volts of a cell and its charge.
-#[derive(Clone, Copy)]
+#[derive(Clone, Copy, Debug)]
 pub struct Knot {
     pub v: f32,
     pub s: f32,
@@ -46,6 +47,7 @@ fn segment(k0: Knot, k1: Knot, v: f32) -> f32
 }
 
 // The charge of a cell by its resting volts; 0 for volts that are not finite.
+#[tactic(auto, unfolding(crate::specs::Curve::ocv_soc_cell_of, crate::specs::Curve::table_of, crate::specs::Curve::knots))]
 pub fn ocv_soc_cell(v_cell: f32) -> f32
     ensures { result ≡ ocv_soc_cell_of v_cell }
 {
@@ -53,14 +55,10 @@ pub fn ocv_soc_cell(v_cell: f32) -> f32
     if v <= CURVE[0].v {
         return 0.0;
     }
-    let mut i = 1;
-    while i < 8 {
-        let k1 = CURVE[i];
+    for [k0, k1] in CURVE.array_windows::<2>() {
         if v <= k1.v {
-            let k0 = CURVE[i - 1];
-            return segment(k0, k1, v);
+            return segment(*k0, *k1, v);
         }
-        i += 1;
     }
     1.0
 }

@@ -1,14 +1,14 @@
 // The estimator: charge used, resistance of the pack, charge left, and the two flags.
 
 ghost use Rattle.std.specs.Prelude.{◌≡◌};
-ghost use Rattle.relay_batt.specs.Estimator.{none_of, new_of, reset_of, consumed_of, big_step_of, blend_of, r_est_of, rest_of, soc_of, shown_of, with_amps_of, volts_only_of, update_amps_of, update_volts_of};
+ghost use Rattle.relay_batt.specs.Estimator.{new_of, reset_of, consumed_of, big_step_of, blend_of, r_est_of, rest_of, soc_of, shown_of, latched_of, with_amps_of, volts_only_of, read_of};
 
 use crate::config::BattConfig;
 use crate::curve::{ocv_soc_cell, sanitize};
 use crate::latch::TripLatch;
 
-// The estimated state of the battery, as it is shown.
-#[derive(Clone, Copy)]
+// The estimated state of the battery, as it is shown; before the first reading the default, all zero and false. A degraded one has no amps: they are 0.
+#[derive(Clone, Copy, Debug, Default)]
 pub struct BattState {
     pub volts: f32,
     pub rest_volts: f32,
@@ -21,27 +21,8 @@ pub struct BattState {
     pub degraded: bool,
 }
 
-impl BattState {
-    // What is shown before the first reading.
-    pub fn none() -> BattState
-        ensures { result ≡ none_of }
-    {
-        BattState {
-            volts: 0.0,
-            rest_volts: 0.0,
-            current_a: 0.0,
-            consumed_mah: 0.0,
-            soc: 0.0,
-            r_est: 0.0,
-            low: false,
-            critical: false,
-            degraded: false,
-        }
-    }
-}
-
-// A pack's configuration, and what one reading leaves for the next.
-#[derive(Clone, Copy)]
+// A pack's configuration, and what one reading leaves for the next. No Option of `prev_v` and `prev_i`: the record writes them also where `have_prev` is false.
+#[derive(Clone, Copy, Debug)]
 pub struct BatteryEstimator {
     pub cfg: BattConfig,
     pub consumed_mah: f32,
@@ -54,7 +35,7 @@ pub struct BatteryEstimator {
 }
 
 // The estimator after a reading, and the state to be shown.
-#[derive(Clone, Copy)]
+#[derive(Clone, Copy, Debug)]
 pub struct Updated {
     pub est: BatteryEstimator,
     pub state: BattState,
@@ -78,6 +59,7 @@ impl BatteryEstimator {
     pub const MAH_PER_A_S: f32 = 1000.0 / 3600.0;
 
     // Nothing used, and the resistance that the configuration gives.
+    #[tactic(auto, unfolding(crate::specs::Estimator::new_of))]
     pub fn new(cfg: BattConfig) -> BatteryEstimator
         ensures { result ≡ new_of cfg }
     {
@@ -87,8 +69,6 @@ impl BatteryEstimator {
             Self::R_MAX,
             BattConfig::FALLBACK_R_INTERNAL,
         );
-        let low = TripLatch::new();
-        let critical = TripLatch::new();
         BatteryEstimator {
             cfg,
             consumed_mah: 0.0,
@@ -96,36 +76,31 @@ impl BatteryEstimator {
             prev_v: 0.0,
             prev_i: 0.0,
             have_prev: false,
-            low,
-            critical,
+            low: TripLatch::default(),
+            critical: TripLatch::default(),
         }
     }
 
     // A new pack: count and latches anew, the resistance is kept.
+    #[tactic(auto, unfolding(crate::specs::Estimator::reset_of))]
     pub fn reset(self) -> BatteryEstimator
         ensures { result ≡ reset_of self }
     {
-        let cfg = self.cfg;
-        let low = TripLatch::new();
-        let critical = TripLatch::new();
         BatteryEstimator {
-            cfg,
             consumed_mah: 0.0,
-            r_est: self.r_est,
-            prev_v: self.prev_v,
-            prev_i: self.prev_i,
             have_prev: false,
-            low,
-            critical,
+            low: TripLatch::default(),
+            critical: TripLatch::default(),
+            ..self
         }
     }
 
     // The charge used after `dt` seconds of `i` amps, at most the capacity.
+    #[tactic(auto, unfolding(crate::specs::Estimator::consumed_of))]
     fn consumed(self, dt: f32, i: f32) -> f32
         ensures { result ≡ consumed_of self dt i }
     {
-        let cfg = self.cfg;
-        let cap = cfg.capacity();
+        let cap = self.cfg.capacity();
         sanitize(
             self.consumed_mah + i * dt * Self::MAH_PER_A_S,
             0.0,
@@ -135,13 +110,15 @@ impl BatteryEstimator {
     }
 
     // A step of current large enough to judge the resistance by; NaN is one.
+    #[tactic(auto, unfolding(crate::specs::Estimator::big_step_of))]
     fn big_step(di: f32) -> bool
         ensures { result ≡ big_step_of di }
     {
-        !((-Self::R_STEP_MIN_A <= di) & (di <= Self::R_STEP_MIN_A))
+        !(-Self::R_STEP_MIN_A..=Self::R_STEP_MIN_A).contains(&di)
     }
 
     // The resistance moved towards what a step of volts and amps says.
+    #[tactic(auto, unfolding(crate::specs::Estimator::blend_of))]
     fn blend(r_est: f32, dv: f32, di: f32) -> f32
         ensures { result ≡ blend_of r_est dv di }
     {
@@ -155,19 +132,19 @@ impl BatteryEstimator {
     }
 
     // The resistance after `v` volts with `i` amps.
+    #[tactic(auto, unfolding(crate::specs::Estimator::r_est_of))]
     fn resistance(self, v: f32, i: f32) -> f32
         ensures { result ≡ r_est_of self v i }
     {
         let di = i - self.prev_i;
-        let dv = v - self.prev_v;
-        let big = Self::big_step(di);
-        if self.have_prev & big {
-            return Self::blend(self.r_est, dv, di);
+        if self.have_prev && Self::big_step(di) {
+            return Self::blend(self.r_est, v - self.prev_v, di);
         }
         self.r_est
     }
 
     // The volts without the sag.
+    #[tactic(auto, unfolding(crate::specs::Estimator::rest_of))]
     fn rest_volts(v: f32, i: f32, r_est: f32) -> f32
         ensures { result ≡ rest_of v i r_est }
     {
@@ -175,12 +152,14 @@ impl BatteryEstimator {
     }
 
     // The lower of the charge left by the count and the charge by the curve.
+    #[tactic(auto, unfolding(crate::specs::Estimator::soc_of, crate::specs::Estimator::soc_coulomb_of))]
     fn soc(cfg: BattConfig, consumed_mah: f32, rest: f32) -> f32
         ensures { result ≡ soc_of cfg consumed_mah rest }
     {
         let cap = cfg.capacity();
         let coulomb = sanitize(1.0 - consumed_mah / cap, 0.0, 1.0, 0.0);
         let ocv = ocv_soc_cell(cfg.per_cell(rest));
+        // No `min`: std's leaves open which of 0 and -0 it returns.
         if coulomb < ocv {
             return coulomb;
         }
@@ -188,6 +167,7 @@ impl BatteryEstimator {
     }
 
     // The state that this estimator shows.
+    #[tactic(auto, unfolding(crate::specs::Estimator::shown_of))]
     fn shown(
         self,
         volts: f32,
@@ -211,7 +191,20 @@ impl BatteryEstimator {
         }
     }
 
+    // With the latches `dt` seconds on, each below its threshold or not.
+    fn latched(self, dt: f32, low: bool, critical: bool) -> BatteryEstimator
+        ensures { result ≡ latched_of self dt low critical }
+    {
+        let debounce_s = self.cfg.debounce_s;
+        BatteryEstimator {
+            low: self.low.update(dt, low, debounce_s),
+            critical: self.critical.update(dt, critical, debounce_s),
+            ..self
+        }
+    }
+
     // Volts with amps, cut to their ranges.
+    #[tactic(auto, unfolding(crate::specs::Estimator::with_amps_of))]
     fn with_amps(self, dt: f32, v: f32, i: f32) -> Updated
         ensures { result ≡ with_amps_of self dt v i }
     {
@@ -220,65 +213,49 @@ impl BatteryEstimator {
         let r_est = self.resistance(v, i);
         let rest = Self::rest_volts(v, i, r_est);
         let soc = Self::soc(cfg, consumed_mah, rest);
-        let low = self.low;
-        let low = low.update(dt, soc < cfg.low_soc, cfg.debounce_s);
-        let critical = self.critical;
-        let critical = critical.update(dt, soc < cfg.crit_soc, cfg.debounce_s);
         let est = BatteryEstimator {
-            cfg,
             consumed_mah,
             r_est,
             prev_v: v,
             prev_i: i,
             have_prev: true,
-            low,
-            critical,
+            ..self.latched(dt, soc < cfg.low_soc, soc < cfg.crit_soc)
         };
-        let state = est.shown(v, rest, i, soc, false);
-        Updated { est, state }
+        Updated {
+            est,
+            state: est.shown(v, rest, i, soc, false),
+        }
     }
 
     // Volts alone, cut to their range: no count and no sag, and thresholds in volts.
+    #[tactic(auto, unfolding(crate::specs::Estimator::volts_only_of))]
     fn volts_only(self, dt: f32, v: f32) -> Updated
         ensures { result ≡ volts_only_of self dt v }
     {
         let cfg = self.cfg;
         let v_cell = cfg.per_cell(v);
-        let soc = ocv_soc_cell(v_cell);
-        let low = self.low;
-        let low = low.update(dt, v_cell < cfg.low_v_cell_fallback, cfg.debounce_s);
-        let critical = self.critical;
-        let critical = critical.update(dt, v_cell < cfg.crit_v_cell_fallback, cfg.debounce_s);
+        let low = v_cell < cfg.low_v_cell_fallback;
+        let critical = v_cell < cfg.crit_v_cell_fallback;
         let est = BatteryEstimator {
-            cfg,
-            consumed_mah: self.consumed_mah,
-            r_est: self.r_est,
-            prev_v: self.prev_v,
-            prev_i: self.prev_i,
             have_prev: false,
-            low,
-            critical,
+            ..self.latched(dt, low, critical)
         };
-        let state = est.shown(v, v, 0.0, soc, true);
-        Updated { est, state }
+        Updated {
+            est,
+            state: est.shown(v, v, 0.0, ocv_soc_cell(v_cell), true),
+        }
     }
 
-    // A reading of volts with amps.
-    pub fn update_amps(self, dt_s: f32, volts: f32, amps: f32) -> Updated
-        ensures { result ≡ update_amps_of self dt_s volts amps }
+    // A reading of volts, with amps or without.
+    #[tactic(auto, unfolding(crate::specs::Estimator::update_amps_of, crate::specs::Estimator::update_volts_of))]
+    pub fn update(self, dt_s: f32, volts: f32, amps: Option<f32>) -> Updated
+        ensures { result ≡ read_of self dt_s volts amps }
     {
         let dt = sanitize(dt_s, 0.0, Self::DT_MAX, 0.0);
         let v = sanitize(volts, 0.0, Self::V_MAX, 0.0);
-        let i = sanitize(amps, 0.0, Self::I_MAX, 0.0);
-        self.with_amps(dt, v, i)
-    }
-
-    // A reading of volts alone.
-    pub fn update_volts(self, dt_s: f32, volts: f32) -> Updated
-        ensures { result ≡ update_volts_of self dt_s volts }
-    {
-        let dt = sanitize(dt_s, 0.0, Self::DT_MAX, 0.0);
-        let v = sanitize(volts, 0.0, Self::V_MAX, 0.0);
-        self.volts_only(dt, v)
+        match amps {
+            Some(amps) => self.with_amps(dt, v, sanitize(amps, 0.0, Self::I_MAX, 0.0)),
+            None => self.volts_only(dt, v),
+        }
     }
 }

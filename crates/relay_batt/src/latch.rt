@@ -1,27 +1,18 @@
 // A flag that trips after an excursion has lasted, and stays.
 
 ghost use Rattle.std.specs.Prelude.{◌≡◌};
-ghost use Rattle.relay_batt.specs.Latch.{new_latch_of, trip_of};
+ghost use Rattle.relay_batt.specs.Latch.{trip_of};
 
-// Seconds below the threshold, and whether it has tripped.
-#[derive(Clone, Copy)]
+// Seconds below the threshold, and whether it has tripped: a record has the seconds of a tripped one too. The default is not tripped and not below.
+#[derive(Clone, Copy, Debug, Default)]
 pub struct TripLatch {
     pub below_s: f32,
     pub latched: bool,
 }
 
 impl TripLatch {
-    // Not tripped, and not below.
-    pub fn new() -> TripLatch
-        ensures { result ≡ new_latch_of }
-    {
-        TripLatch {
-            below_s: 0.0,
-            latched: false,
-        }
-    }
-
     // `dt` seconds on, below the threshold or not.
+    #[tactic(auto, unfolding(crate::specs::Latch::trip_of))]
     pub fn update(self, dt: f32, below: bool, debounce_s: f32) -> TripLatch
         ensures { result ≡ trip_of self dt below debounce_s }
     {
@@ -35,7 +26,7 @@ impl TripLatch {
                 latched: below_s >= debounce_s,
             };
         }
-        Self::new()
+        Self::default()
     }
 
     // Whether it has tripped.

@@ -1,13 +1,14 @@
-// The battery without its pack as 21 numbers.
+// The battery without its pack as 21 numbers. Named functions and no From: the name says which part of a line they are.
 
 ghost use Rattle.std.specs.Prelude.{◌≡◌};
 ghost use Rattle.relay_batt.specs.Numbers.{estimator_numbers_of, state_numbers_of, silence_numbers_of};
 
 use crate::battery::Battery;
 use crate::estimator::{BattState, BatteryEstimator};
-use relay_math::{flag_number, to_bits};
+use relay_math::to_bits;
 
 // Used, resistance, volts and amps before and whether there were any, and the two latches with their seconds below.
+#[tactic(auto, unfolding(crate::specs::Numbers::estimator_numbers_of))]
 pub fn estimator_numbers(e: BatteryEstimator) -> [u32; 9]
     ensures { result ≡ estimator_numbers_of e }
 {
@@ -16,15 +17,16 @@ pub fn estimator_numbers(e: BatteryEstimator) -> [u32; 9]
         to_bits(e.r_est),
         to_bits(e.prev_v),
         to_bits(e.prev_i),
-        flag_number(e.have_prev),
+        u32::from(e.have_prev),
         to_bits(e.low.below_s),
-        flag_number(e.low.latched),
+        u32::from(e.low.latched),
         to_bits(e.critical.below_s),
-        flag_number(e.critical.latched),
+        u32::from(e.critical.latched),
     ]
 }
 
 // The state shown.
+#[tactic(auto, unfolding(crate::specs::Numbers::state_numbers_of))]
 pub fn state_numbers(s: BattState) -> [u32; 9]
     ensures { result ≡ state_numbers_of s }
 {
@@ -35,19 +37,20 @@ pub fn state_numbers(s: BattState) -> [u32; 9]
         to_bits(s.consumed_mah),
         to_bits(s.soc),
         to_bits(s.r_est),
-        flag_number(s.low),
-        flag_number(s.critical),
-        flag_number(s.degraded),
+        u32::from(s.low),
+        u32::from(s.critical),
+        u32::from(s.degraded),
     ]
 }
 
 // The silence, whether the last tick had a reading, whether any had.
+#[tactic(auto, unfolding(crate::specs::Numbers::silence_numbers_of))]
 pub fn silence_numbers(b: Battery) -> [u32; 3]
     ensures { result ≡ silence_numbers_of b }
 {
     [
         to_bits(b.missing_s),
-        flag_number(b.present),
-        flag_number(b.seen),
+        u32::from(b.present),
+        u32::from(b.seen),
     ]
 }

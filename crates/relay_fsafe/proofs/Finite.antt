@@ -2,17 +2,15 @@
 -- Assumes nothing.
 use mathlib.Core.Path.{◌≡◌, refl, sym, ◌∙◌, ap}
 use mathlib.Core.Bool.{Bool, true, false, ◌&&◌, ◌||◌, not}
-use mathlib.Core.List.{List, [], ◌∷◌}
 use mathlib.Core.Logic.{◌⊎◌, inl, inr}
 use Prim.Native.Nat.{ℕ, zero, suc}
 use lib.Dec.{T, eqb, eqb→eq}
-use native.Mathlib.Omega.{arith}
-use lib.ListN.{get_or}
 use lib.Ieee.Fits.{and_l, and_r}
 use Rattle.relay_fsafe.specs.declared.FailsafeAction.{FailsafeAction}
 use Rattle.relay_fsafe.specs.declared.FailsafeAction.TheVariants.{None, Hold, Rtl, Land, Terminate}
 use Rattle.relay_fsafe.specs.declared.Triggers.{Triggers}
-use Rattle.relay_fsafe.specs.Fsafe.{severity_of}
+use Rattle.std.specs.Prelude as prelude
+use Rattle.relay_fsafe.specs.Fsafe.{severity_of, action_at_of, action_at}
 
 infixr 20 ◌⇒◌
 abbrev pub ◌⇒◌ : Bool → Bool → Bool
@@ -20,7 +18,7 @@ a ⇒ b = not a || b
 
 pub then : (a b : Bool) → T (a ⇒ b) → a ≡ true → T b
 then true b t h = t
-then false b t h = let z : ◌≡◌ {A = ℕ} 0 1 = cc in absurd (omega arith)
+then false b t h = cc
 
 pub either : (a b : Bool) → T (a || b) → T a ⊎ T b
 either true b t = inl tt
@@ -88,18 +86,19 @@ at_at f h a = at_t (f a) (at_a (λ b. all_t (f b)) h a)
 
 -- actions by their severities
 
-abbrev all_actions : List FailsafeAction
-all_actions = None ∷ Hold ∷ Rtl ∷ Land ∷ Terminate ∷ []
-
-action_at_lem : (a : FailsafeAction) → get_or all_actions (severity_of a) None ≡ a
-action_at_lem None = refl
-action_at_lem Hold = refl
-action_at_lem Rtl = refl
-action_at_lem Land = refl
-action_at_lem Terminate = refl
+-- the action of an action's severity is that action
+pub action_at_severity : (a : FailsafeAction) → action_at (severity_of a) ≡ prelude.Some a
+unfolding action_at action_at_of
+action_at_severity None = refl
+action_at_severity Hold = refl
+action_at_severity Rtl = refl
+action_at_severity Land = refl
+action_at_severity Terminate = refl
 
 pub severity_injective : (a b : FailsafeAction) → severity_of a ≡ severity_of b → a ≡ b
-severity_injective a b e = sym (action_at_lem a) ∙ ap (λ (k : ℕ). get_or all_actions k None) e ∙ action_at_lem b
+severity_injective a b e =
+    let same : prelude.Some a ≡ prelude.Some b = sym (action_at_severity a) ∙ ap action_at e ∙ action_at_severity b in
+    cc
 
 abbrev pub is_action : FailsafeAction → FailsafeAction → Bool
 is_action a b = eqb (severity_of a) (severity_of b)

@@ -4,13 +4,14 @@ use mathlib.Core.Path.{◌≡◌, refl, ap}
 use mathlib.Core.Bool.{Bool, true, false, ◌||◌, cond}
 use mathlib.Core.Logic.{◌⊎◌, inl, inr, ⊎_elim}
 use Prim.Native.Nat.{ℕ, ◌≤◌}
-use native.Mathlib.Omega.{arith}
 use lib.Dec.{T, leb, ltb, leb→le}
+use borrow.Author.Tests.{le-ltb}
 use Rattle.relay_fsafe.specs.declared.FailsafeAction.{FailsafeAction}
 use Rattle.relay_fsafe.specs.declared.FailsafeAction.TheVariants.{None, Hold, Rtl, Land}
+use Rattle.std.specs.Prelude as prelude
 use Rattle.relay_fsafe.specs.declared.Triggers.{Triggers}
 use Rattle.relay_fsafe.specs.declared.FailsafeArbiter.{FailsafeArbiter}
-use Rattle.relay_fsafe.specs.Fsafe.{severity_of, graver_of, bump_of, policy_action_of, evaluate_of, Raised, by_stale_offboard, by_rc_loss, by_datalink_loss, by_geofence_breach, by_low_battery, by_position_loss, by_critical_battery}
+use Rattle.relay_fsafe.specs.Fsafe.{severity_of, action_count, action_at, graver_of, bump_of, policy_action_of, evaluate_of, Raised, by_stale_offboard, by_rc_loss, by_datalink_loss, by_geofence_breach, by_low_battery, by_position_loss, by_critical_battery}
 use Rattle.relay_fsafe.proofs.Finite.{◌⇒◌, then, either, all_t, at_t, at_at, is_action, is_action→eq}
 
 -- the policy
@@ -44,8 +45,7 @@ position_loss_lands t r =
 pub no_blind_rtl : (t : Triggers) → t.position_loss ≡ true → policy_action_of t ≡ Rtl → ⊥
 no_blind_rtl t r e =
     let l : policy_action_of t ≡ Land = position_loss_lands t r in
-    let z : ◌≡◌ {A = ℕ} 0 1 = cc in
-    omega arith
+    cc
 
 -- what holds of two actions holds of the graver
 graver_one : (P : FailsafeAction → Type 0) (a b : FailsafeAction) → P a → P b → P (graver_of a b)
@@ -107,3 +107,8 @@ evaluate_again s t =
     ap (λ a. record { latched = a })
     (is_action→eq _ _
     (at_at (λ a t. is_action (evaluate_of (evaluate_of (record { latched = a }) t) t).latched (evaluate_of (record { latched = a }) t).latched) tt s.latched t))
+
+-- the numbers from 5 on are no action's
+pub action_at_unknown : (n : ℕ) → action_count ≤ n → action_at n ≡ prelude.None
+unfolding action_at
+action_at_unknown n h = simp (le-ltb n action_count h)

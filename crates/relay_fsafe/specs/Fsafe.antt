@@ -1,5 +1,6 @@
 -- The failsafe arbiter: severities, the policy's action, the latch. Document 01, "Triggers".
-use Rattle.std.specs.Prelude.{◌≡◌, Bool, true, cond, ℕ, ltb}
+use Rattle.std.specs.Prelude.{◌≡◌, Bool, true, cond, ℕ, List, [], ◌∷◌, ltb, get_or, Option}
+use Rattle.std.specs.Prelude as prelude
 use Rattle.relay_fsafe.specs.declared.FailsafeAction.{FailsafeAction}
 use Rattle.relay_fsafe.specs.declared.FailsafeAction.TheVariants.{None, Hold, Rtl, Land, Terminate}
 use Rattle.relay_fsafe.specs.declared.Triggers.{Triggers}
@@ -12,6 +13,22 @@ severity_of Hold = 1
 severity_of Rtl = 2
 severity_of Land = 3
 severity_of Terminate = 4
+
+-- The actions in the order of severity.
+abbrev pub actions : List FailsafeAction
+actions = None ∷ Hold ∷ Rtl ∷ Land ∷ Terminate ∷ []
+
+-- how many actions there are
+abbrev pub action_count : ℕ
+action_count = 5
+
+-- The action of a severity below 5.
+unfoldable pub action_at_of : ℕ → FailsafeAction
+action_at_of n = get_or actions n None
+
+-- The action of a severity, none from 5 on.
+unfoldable pub action_at : ℕ → Option FailsafeAction
+action_at n = cond (ltb n action_count) (prelude.Some (action_at_of n)) prelude.None
 
 -- The graver of two actions, the first where they are equally severe.
 unfoldable pub graver_of : FailsafeAction → FailsafeAction → FailsafeAction

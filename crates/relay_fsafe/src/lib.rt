@@ -1,11 +1,14 @@
 // The failsafe arbiter: resolves the raised triggers to the gravest of their actions, and latches it.
 #![tactic(auto)]
 
-ghost use Rattle.std.specs.Prelude.{◌≡◌};
-ghost use Rattle.relay_fsafe.specs.Fsafe.{severity_of, graver_of, bump_of, policy_action_of, evaluate_of};
+ghost use Rattle.std.specs.Prelude.{◌≡◌, ok_or};
+ghost use Rattle.relay_fsafe.specs.Fsafe.{severity_of, action_at, graver_of, bump_of, policy_action_of, evaluate_of};
 
-// What the flight stack does, from the least to the most severe.
-#[derive(Clone, Copy)]
+use std::error::Error;
+use std::fmt;
+
+// What the flight stack does, from the least to the most severe: the derived order is that of severity.
+#[derive(Clone, Copy, Debug, PartialEq, Eq, PartialOrd, Ord, Hash)]
 pub enum FailsafeAction {
     // Fly the commanded mode.
     None,
@@ -19,12 +22,12 @@ pub enum FailsafeAction {
     Terminate,
 }
 
-impl FailsafeAction {
-    // The place in the order of severity.
-    pub fn severity(self) -> u8
-        ensures { result ≡ severity_of self }
-    {
-        match self {
+// The place in the order of severity.
+impl From<FailsafeAction> for u32 {
+    ghost from_gives = { λ a n. n ≡ severity_of a };
+
+    fn from(action: FailsafeAction) -> u32 {
+        match action {
             FailsafeAction::None => 0,
             FailsafeAction::Hold => 1,
             FailsafeAction::Rtl => 2,
@@ -32,30 +35,41 @@ impl FailsafeAction {
             FailsafeAction::Terminate => 4,
         }
     }
+}
 
-    // The graver of two actions.
-    fn graver(self, other: FailsafeAction) -> FailsafeAction
-        ensures { result ≡ graver_of self other }
-    {
-        if self.severity() < other.severity() {
-            return other;
-        }
-        self
+// A number that is no action's severity. An error of its own, whose Display says of what.
+#[derive(Clone, Copy, Debug, PartialEq, Eq, Hash)]
+pub struct UnknownAction(pub u32);
+
+impl fmt::Display for UnknownAction {
+    fn fmt<W: fmt::Write>(&self, f: &mut fmt::Formatter<W>) -> fmt::Result {
+        write!(f, "no action has severity {}", self.0)
     }
+}
 
-    // This action, or `act` where that is raised and graver.
-    fn bump(self, raised: bool, act: FailsafeAction) -> FailsafeAction
-        ensures { result ≡ bump_of self raised act }
-    {
-        if raised {
-            return self.graver(act);
+impl Error for UnknownAction {}
+
+// The action of this severity.
+#[tactic(auto, unfolding(crate::specs::Fsafe::action_at, crate::specs::Fsafe::action_at_of))]
+impl TryFrom<u32> for FailsafeAction {
+    type Error = UnknownAction;
+
+    ghost try_from_gives = { λ n r. r ≡ ok_or (action_at n) (record { 0 = n }) };
+
+    fn try_from(n: u32) -> Result<FailsafeAction, UnknownAction> {
+        match n {
+            0 => Ok(FailsafeAction::None),
+            1 => Ok(FailsafeAction::Hold),
+            2 => Ok(FailsafeAction::Rtl),
+            3 => Ok(FailsafeAction::Land),
+            4 => Ok(FailsafeAction::Terminate),
+            _ => Err(UnknownAction(n)),
         }
-        self
     }
 }
 
 // The triggers that are raised in this cycle.
-#[derive(Clone, Copy)]
+#[derive(Clone, Copy, Debug, PartialEq, Eq, Hash)]
 pub struct Triggers {
     // The pilot's link is lost.
     pub rc_loss: bool,
@@ -75,23 +89,32 @@ pub struct Triggers {
 
 impl Triggers {
     // The gravest action that a raised trigger asks for.
+    #[tactic(auto, unfolding(crate::specs::Fsafe::policy_action_of))]
     pub fn policy_action(self) -> FailsafeAction
         ensures { result ≡ policy_action_of self }
     {
         let mut a = FailsafeAction::None;
-        a = a.bump(self.offboard_stale, FailsafeAction::Hold);
-        a = a.bump(self.rc_loss, FailsafeAction::Rtl);
-        a = a.bump(self.datalink_loss, FailsafeAction::Rtl);
-        a = a.bump(self.geofence_breach, FailsafeAction::Rtl);
-        a = a.bump(self.low_battery, FailsafeAction::Rtl);
-        a = a.bump(self.position_loss, FailsafeAction::Land);
-        a = a.bump(self.critical_battery, FailsafeAction::Land);
+        #[tactic(auto, unfolding(crate::specs::Fsafe::bump_of, crate::specs::Fsafe::graver_of))]
+        let mut bump = |raised: bool, act: FailsafeAction|
+            ensures { a.exit ≡ bump_of a.entry raised act }
+        {
+            if raised && act > a {
+                a = act;
+            }
+        };
+        bump(self.offboard_stale, FailsafeAction::Hold);
+        bump(self.rc_loss, FailsafeAction::Rtl);
+        bump(self.datalink_loss, FailsafeAction::Rtl);
+        bump(self.geofence_breach, FailsafeAction::Rtl);
+        bump(self.low_battery, FailsafeAction::Rtl);
+        bump(self.position_loss, FailsafeAction::Land);
+        bump(self.critical_battery, FailsafeAction::Land);
         a
     }
 }
 
 // Latches the gravest action since the last reset.
-#[derive(Clone, Copy)]
+#[derive(Clone, Copy, Debug, PartialEq, Eq, Hash)]
 pub struct FailsafeArbiter {
     pub latched: FailsafeAction,
 }
@@ -107,13 +130,13 @@ impl FailsafeArbiter {
     }
 
     // The arbiter after this cycle's triggers; what it latches is the action to take.
+    #[tactic(auto, unfolding(crate::specs::Fsafe::evaluate_of, crate::specs::Fsafe::graver_of))]
     pub fn evaluate(self, t: Triggers) -> FailsafeArbiter
         ensures { result ≡ evaluate_of self t }
     {
-        let latched = self.latched;
         let immediate = t.policy_action();
         FailsafeArbiter {
-            latched: latched.graver(immediate),
+            latched: self.latched.max(immediate),
         }
     }
 
@@ -128,8 +151,6 @@ impl FailsafeArbiter {
     pub fn reset(self) -> FailsafeArbiter
         ensures { result ≡ record { latched = FailsafeAction.None } }
     {
-        FailsafeArbiter {
-            latched: FailsafeAction::None,
-        }
+        FailsafeArbiter::new()
     }
 }

@@ -1,4 +1,4 @@
--- A rule over Bools, modes, events and gates that holds in every case, from one test that antt computes: `at2 (λ a b m. rule) tt`.
+-- A rule over Bools, modes, events and gates that holds in every case, from one test that antt computes: `at 2 (λ a b m. rule) tt`.
 -- Assumes nothing.
 use mathlib.Core.Path.{◌≡◌, refl, sym, ◌∙◌, ap, subst}
 use mathlib.Core.Bool.{Bool, true, false, ◌&&◌, ◌||◌, not}
@@ -10,6 +10,7 @@ use native.Mathlib.Decide.{dec_lt}
 use native.Mathlib.Omega.{arith}
 use lib.Dec.{T, eqb→eq, lit<}
 use lib.ListN.{length, get_or}
+use Rattle.std.specs.List.{list_all}
 use lib.Ieee.Fits.{and_l, and_r, eq→eqb}
 use Rattle.relay_fsm.specs.declared.Mode.{Mode}
 use Rattle.relay_fsm.specs.declared.Mode.TheVariants.{Disarmed, Armed, Takeoff, Loiter, Mission, Land, Rtl, Terminated}
@@ -37,14 +38,10 @@ either false b t = inr t
 -- every entry of a list passes
 
 module _ {A : Type 0} where
-  abbrev pub every : (A → Bool) → List A → Bool
-  every f [] = true
-  every f (x ∷ xs) = f x && every f xs
-
-  pub at_place : (f : A → Bool) (xs : List A) (d : A) → T (every f xs) → (k : ℕ) → k < length xs → T (f (get_or xs k d))
+  pub at_place : (f : A → Bool) (xs : List A) (d : A) → T (list_all f xs) → (k : ℕ) → k < length xs → T (f (get_or xs k d))
   at_place f [] d t k h = absurd (not-suc-le-zero h)
-  at_place f (x ∷ xs) d t zero h = and_l (f x) (every f xs) t
-  at_place f (x ∷ xs) d t (suc k) h = at_place f xs d (and_r (f x) (every f xs) t) k (le_of_suc-le-suc h)
+  at_place f (x ∷ xs) d t zero h = and_l (f x) (list_all f xs) t
+  at_place f (x ∷ xs) d t (suc k) h = at_place f xs d (and_r (f x) (list_all f xs) t) k (le_of_suc-le-suc h)
 
 -- every number below a limit passes
 
@@ -136,10 +133,10 @@ abbrev pub all_b : (Bool → Bool) → Bool
 all_b f = f true && f false
 
 abbrev pub all_m : (Mode → Bool) → Bool
-all_m f = every f modes
+all_m f = list_all f modes
 
 abbrev pub all_e : (Event → Bool) → Bool
-all_e f = every f all_events
+all_e f = list_all f all_events
 
 abbrev gates : Bool → Bool → Bool → Bool → Gates
 gates a b c d = record { level = a; throttle_low = b; have_position = c; prearm_ok = d }
@@ -167,37 +164,23 @@ at_g f t g =
     g.have_position)
     g.prearm_ok
 
--- a rule over some Bools and a mode
+-- a rule over n Bools and a mode
 
-abbrev pub all1 : (Bool → Mode → Bool) → Bool
-all1 f = all_b (λ a. all_m (f a))
+abbrev pub Rule : ℕ → Type 0
+Rule zero = Mode → Bool
+Rule (suc n) = Bool → Rule n
 
-abbrev pub all2 : (Bool → Bool → Mode → Bool) → Bool
-all2 f = all_b (λ a. all1 (f a))
+abbrev pub all : (n : ℕ) → Rule n → Bool
+all zero f = all_m f
+all (suc n) f = all_b (λ a. all n (f a))
 
-abbrev pub all3 : (Bool → Bool → Bool → Mode → Bool) → Bool
-all3 f = all_b (λ a. all2 (f a))
+abbrev pub Holds : (n : ℕ) → Rule n → Type 0
+Holds zero f = (m : Mode) → T (f m)
+Holds (suc n) f = (a : Bool) → Holds n (f a)
 
-abbrev pub all4 : (Bool → Bool → Bool → Bool → Mode → Bool) → Bool
-all4 f = all_b (λ a. all3 (f a))
-
-abbrev pub all5 : (Bool → Bool → Bool → Bool → Bool → Mode → Bool) → Bool
-all5 f = all_b (λ a. all4 (f a))
-
-pub at1 : (f : Bool → Mode → Bool) → T (all1 f) → (a : Bool) (m : Mode) → T (f a m)
-at1 f t a = at_m (f a) (at_b (λ x. all_m (f x)) t a)
-
-pub at2 : (f : Bool → Bool → Mode → Bool) → T (all2 f) → (a b : Bool) (m : Mode) → T (f a b m)
-at2 f t a = at1 (f a) (at_b (λ x. all1 (f x)) t a)
-
-pub at3 : (f : Bool → Bool → Bool → Mode → Bool) → T (all3 f) → (a b c : Bool) (m : Mode) → T (f a b c m)
-at3 f t a = at2 (f a) (at_b (λ x. all2 (f x)) t a)
-
-pub at4 : (f : Bool → Bool → Bool → Bool → Mode → Bool) → T (all4 f) → (a b c d : Bool) (m : Mode) → T (f a b c d m)
-at4 f t a = at3 (f a) (at_b (λ x. all3 (f x)) t a)
-
-pub at5 : (f : Bool → Bool → Bool → Bool → Bool → Mode → Bool) → T (all5 f) → (a b c d e : Bool) (m : Mode) → T (f a b c d e m)
-at5 f t a = at4 (f a) (at_b (λ x. all4 (f x)) t a)
+pub at : (n : ℕ) (f : Rule n) → T (all n f) → Holds n f
+at zero f t = at_m f t
+at (suc n) f t = λ a. at n (f a) (at_b (λ x. all n (f x)) t a)
 
 -- a rule over the machine's arguments
 

@@ -4,7 +4,6 @@ use mathlib.Core.Path.{◌≡◌, refl, sym, ◌∙◌, ap, ap₂, subst}
 use mathlib.Core.Bool.{Bool, true, false, ◌&&◌, ◌||◌, not, cond}
 use mathlib.Core.Logic.{◌⊎◌, inl, inr, ⊎_elim}
 use Prim.Native.Nat.{ℕ, ◌≤◌, ◌<◌}
-use native.Mathlib.Omega.{arith}
 use lib.Dec.{T, eqb, leb, ltb, leb→le, eqb→eq}
 use lib.ListN.{get_or}
 use lib.Ieee.Fits.{and_i, and_l, and_r}
@@ -13,12 +12,12 @@ use Rattle.relay_fsm.specs.declared.Mode.{Mode}
 use Rattle.relay_fsm.specs.declared.Mode.TheVariants.{Disarmed, Armed, Takeoff, Loiter, Mission, Land, Rtl, Terminated}
 use Rattle.relay_fsm.specs.declared.Event.{Event}
 use Rattle.relay_fsm.specs.declared.Event.TheVariants.{Arm, RequestTakeoff, RequestDisarm, Touchdown, Failsafe, Terminate}
-use Rattle.relay_fsm.specs.declared.FoundEvent.TheVariants.{Known, Unknown}
+use Rattle.std.specs.Prelude.{Some, None}
 use Rattle.relay_fsm.specs.declared.Gates.{Gates}
-use Rattle.relay_fsm.specs.Mode.{is_mode, is_airborne_of, rank_of}
+use Rattle.relay_fsm.specs.Mode.{mode_number, mode_count, mode_at_of, mode_at, is_mode, is_airborne_of, rank_of}
 use Rattle.relay_fsm.specs.Event.{event_count, event_number, is_event, all_events, event_at}
 use Rattle.relay_fsm.specs.Fsm.{is_pair, row_of, on_of}
-use Rattle.relay_fsm.proofs.Finite.{◌⇒◌, then, either, at_number, event_at_lem, event_number_below, is_mode→eq, eq→is_mode, is_event→eq, is_pair→eq, all_b, all_m, all_e, at_b, at_m, at_e, at_g, at_mg, at_eg}
+use Rattle.relay_fsm.proofs.Finite.{◌⇒◌, then, either, at_number, mode_at_lem, mode_number_below, event_at_lem, event_number_below, is_mode→eq, eq→is_mode, is_event→eq, is_pair→eq, all_b, all_m, all_e, at_b, at_m, at_e, at_g, at_mg, at_eg}
 
 -- a mode n that is met either before, or by a pair under a gate
 entered : {P : Type 0} (m n : Mode) (pair gate : Bool) → (T pair → P) → T (is_mode m n || (pair && gate)) → (m ≡ n) ⊎ (P × T gate)
@@ -228,10 +227,35 @@ failsafe_never_disarms m g h =
     (at_mg (λ m g. is_mode (on_of m Failsafe g) Disarmed ⇒ is_mode m Disarmed) tt m g)
     (eq→is_mode (on_of m Failsafe g) Disarmed h))
 
+-- numbers of modes
+
+-- the mode with a mode's number is that mode
+pub mode_at_number : (m : Mode) → mode_at (mode_number m) ≡ Some m
+unfolding mode_at mode_at_of
+mode_at_number m = simp (lt-ltb (mode_number m) mode_count (mode_number_below m), mode_at_lem m)
+
+pub number_of_mode_at : (n : ℕ) (m : Mode) → mode_at n ≡ Some m → n ≡ mode_number m
+unfolding mode_at mode_at_of
+number_of_mode_at n m h = go (ltb n mode_count) refl
+  where
+    go : (b : Bool) → ltb n mode_count ≡ b → n ≡ mode_number m
+    go true p =
+        let q : Some (mode_at_of n) ≡ Some m = simp p at h in
+        let r : mode_at_of n ≡ m = cc in
+        sym (eqb→eq _ _ (at_number mode_count (λ k. eqb (mode_number (mode_at_of k)) k) tt n (ltb-true n mode_count p))) ∙ ap mode_number r
+    go false p =
+        let q : None ≡ Some m = simp p at h in
+        cc
+
+-- the numbers from 8 on stand for none, and only they
+pub mode_at_unknown : (n : ℕ) → mode_count ≤ n → mode_at n ≡ None
+unfolding mode_at
+mode_at_unknown n h = simp (le-ltb n mode_count h)
+
 -- numbers of events
 
 -- the event with an event's number is that event
-pub event_at_number : (e : Event) → event_at (event_number e) ≡ Known e
+pub event_at_number : (e : Event) → event_at (event_number e) ≡ Some e
 unfolding event_at
 event_at_number e = simp (lt-ltb (event_number e) event_count (event_number_below e), event_at_lem e)
 
@@ -239,31 +263,30 @@ event_at_number e = simp (lt-ltb (event_number e) event_count (event_number_belo
 number_at : (n : ℕ) → n < event_count → event_number (get_or all_events n Arm) ≡ n
 number_at n h = eqb→eq _ _ (at_number event_count (λ k. eqb (event_number (get_or all_events k Arm)) k) tt n h)
 
-pub number_of_event_at : (n : ℕ) (e : Event) → event_at n ≡ Known e → n ≡ event_number e
+pub number_of_event_at : (n : ℕ) (e : Event) → event_at n ≡ Some e → n ≡ event_number e
 unfolding event_at
 number_of_event_at n e h = go (ltb n event_count) refl
   where
     go : (b : Bool) → ltb n event_count ≡ b → n ≡ event_number e
     go true p =
-        let q : Known (get_or all_events n Arm) ≡ Known e = simp p at h in
+        let q : Some (get_or all_events n Arm) ≡ Some e = simp p at h in
         let r : get_or all_events n Arm ≡ e = cc in
         sym (number_at n (ltb-true n event_count p)) ∙ ap event_number r
     go false p =
-        let q : Unknown ≡ Known e = simp p at h in
+        let q : None ≡ Some e = simp p at h in
         cc
 
 -- the numbers from 12 on stand for none, and only they
-pub event_at_unknown : (n : ℕ) → event_count ≤ n → event_at n ≡ Unknown
+pub event_at_unknown : (n : ℕ) → event_count ≤ n → event_at n ≡ None
 unfolding event_at
 event_at_unknown n h = simp (le-ltb n event_count h)
 
-pub unknown_event_at : (n : ℕ) → event_at n ≡ Unknown → event_count ≤ n
+pub unknown_event_at : (n : ℕ) → event_at n ≡ None → event_count ≤ n
 unfolding event_at
 unknown_event_at n h = go (ltb n event_count) refl
   where
     go : (b : Bool) → ltb n event_count ≡ b → event_count ≤ n
     go true p =
-        let q : Known (get_or all_events n Arm) ≡ Unknown = simp p at h in
-        let z : ◌≡◌ {A = ℕ} 0 1 = cc in
-        omega arith
+        let q : Some (get_or all_events n Arm) ≡ None = simp p at h in
+        cc
     go false p = ltb-false n event_count p

@@ -1,9 +1,7 @@
 -- What document 01, "Mode and event", says of the events: their numbers, both ways.
-use Rattle.std.specs.Prelude.{Bool, cond, ℕ, List, [], ◌∷◌, eqb, ltb, get_or}
+use Rattle.std.specs.Prelude.{Bool, cond, ℕ, List, [], ◌∷◌, eqb, ltb, get_or, Option, Some, None}
 use Rattle.relay_fsm.specs.declared.Event.{Event}
 use Rattle.relay_fsm.specs.declared.Event.TheVariants.{Arm, RequestTakeoff, RequestMission, RequestLoiter, RequestRtl, RequestLand, RequestDisarm, ReachedAltitude, ReachedHome, Touchdown, Failsafe, Terminate}
-use Rattle.relay_fsm.specs.declared.FoundEvent.{FoundEvent}
-use Rattle.relay_fsm.specs.declared.FoundEvent.TheVariants.{Known, Unknown}
 
 -- "Events 0..11: Arm, RequestTakeoff, RequestMission, RequestLoiter, RequestRtl, RequestLand, RequestDisarm, ReachedAltitude, ReachedHome, Touchdown, Failsafe, Terminate."
 abbrev pub event_number : Event → ℕ
@@ -45,6 +43,6 @@ all_events =
     ∷ Terminate
     ∷ []
 
--- `Event::from_number`: the event with a number, and `Unknown` above 11.
-unfoldable pub event_at : ℕ → FoundEvent
-event_at n = cond (ltb n event_count) (Known (get_or all_events n Arm)) Unknown
+-- `Event::try_from`: the event with a number, none above 11.
+unfoldable pub event_at : ℕ → Option Event
+event_at n = cond (ltb n event_count) (Some (get_or all_events n Arm)) None

@@ -1,29 +1,23 @@
 -- The mode machine of `FlightFsm::on`: the rows of the Rust's match in its order, and the mode after an event.
-use Rattle.std.specs.Prelude.{Bool, ◌&&◌, ◌||◌, cond}
+use Rattle.std.specs.Prelude.{Bool, ◌&&◌, ◌||◌, cond, Option, Some, None, unwrap_or}
 use Rattle.relay_fsm.specs.declared.Mode.{Mode}
 use Rattle.relay_fsm.specs.declared.Mode.TheVariants.{Disarmed, Armed, Takeoff, Loiter, Mission, Land, Rtl, Terminated}
 use Rattle.relay_fsm.specs.declared.Event.{Event}
 use Rattle.relay_fsm.specs.declared.Event.TheVariants.{Arm, RequestTakeoff, RequestMission, RequestLoiter, RequestRtl, RequestLand, RequestDisarm, ReachedAltitude, ReachedHome, Touchdown, Failsafe, Terminate}
 use Rattle.relay_fsm.specs.declared.Gates.{Gates}
-use Rattle.relay_fsm.specs.declared.Transition.{Transition}
-use Rattle.relay_fsm.specs.declared.Transition.TheVariants.{Taken, Ignored}
 use Rattle.relay_fsm.specs.Mode.{is_mode}
 use Rattle.relay_fsm.specs.Event.{is_event}
 
 -- A row of the match: where it applies it leads to its mode, elsewhere the rows after it decide.
-abbrev row : Bool → Mode → Transition → Transition
-row applies n rest = cond applies (Taken n) rest
-
--- A row by itself.
-abbrev pub taken_if_of : Bool → Mode → Transition
-taken_if_of applies n = row applies n Ignored
+abbrev row : Bool → Mode → Option Mode → Option Mode
+row applies n rest = cond applies (Some n) rest
 
 -- Whether a mode and an event are the pair that a row names.
 abbrev pub is_pair : Mode → Event → Mode → Event → Bool
 is_pair m e n f = is_event e f && is_mode m n
 
--- The match of `FlightFsm::on`, row by row in its order, all but the last: `Ignored` where none of them applies.
-unfoldable pub row_of : Mode → Event → Gates → Transition
+-- The match of `FlightFsm::on`, row by row in its order, all but the last: `None` where none of them applies.
+unfoldable pub row_of : Mode → Event → Gates → Option Mode
 row_of m e g =
     row (is_pair m e Disarmed Arm && g.level && g.throttle_low && g.prearm_ok) Armed
     (row (is_pair m e Armed RequestDisarm) Disarmed
@@ -39,13 +33,8 @@ row_of m e g =
     (row (is_pair m e Takeoff Failsafe || is_pair m e Loiter Failsafe || is_pair m e Mission Failsafe) (cond g.have_position Rtl Land)
     (row (is_pair m e Rtl Failsafe) Land
     (row (is_event e Terminate) Terminated
-    Ignored)))))))))))))
+    None)))))))))))))
 
--- The mode that a transition leaves a mode in: "Every pair not in the match of 001 keeps the mode."
-abbrev pub applied_of : Transition → Mode → Mode
-applied_of (Taken n) m = n
-applied_of Ignored m = m
-
--- `FlightFsm::on`: the mode after an event.
+-- `FlightFsm::on`: the mode after an event. "Every pair not in the match of 001 keeps the mode."
 unfoldable pub on_of : Mode → Event → Gates → Mode
-on_of m e g = applied_of (row_of m e g) m
+on_of m e g = unwrap_or (row_of m e g) m

@@ -1,5 +1,5 @@
 -- What document 01, "Mode and event", says of the modes: their numbers, which are airborne, and their ranks.
-use Rattle.std.specs.Prelude.{Bool, true, false, ℕ, List, [], ◌∷◌, eqb, get_or}
+use Rattle.std.specs.Prelude.{Bool, true, false, cond, ℕ, List, [], ◌∷◌, eqb, ltb, get_or, Option, Some, None}
 use Rattle.relay_fsm.specs.declared.Mode.{Mode}
 use Rattle.relay_fsm.specs.declared.Mode.TheVariants.{Disarmed, Armed, Takeoff, Loiter, Mission, Land, Rtl, Terminated}
 
@@ -25,6 +25,10 @@ mode_count = 8
 -- the mode with a number below 8
 unfoldable pub mode_at_of : ℕ → Mode
 mode_at_of n = get_or modes n Disarmed
+
+-- the mode with a number, none from 8 on
+unfoldable pub mode_at : ℕ → Option Mode
+mode_at n = cond (ltb n mode_count) (Some (mode_at_of n)) None
 
 -- Whether a mode is the one that a row of the Rust's match names.
 abbrev pub is_mode : Mode → Mode → Bool

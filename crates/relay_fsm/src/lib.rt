@@ -1,12 +1,15 @@
 // Flight modes, events, and what each event does in each mode.
 #![tactic(auto)]
 
-ghost use Rattle.std.specs.Prelude.{◌≡◌};
-ghost use Rattle.relay_fsm.specs.Mode.{mode_number, is_mode, is_airborne_of, rank_of};
+ghost use Rattle.std.specs.Prelude.{◌≡◌, ok_or};
+ghost use Rattle.relay_fsm.specs.Mode.{mode_number, mode_at, is_airborne_of, rank_of};
 ghost use Rattle.relay_fsm.specs.Event.{event_number, event_at};
-ghost use Rattle.relay_fsm.specs.Fsm.{taken_if_of, row_of, applied_of, on_of};
+ghost use Rattle.relay_fsm.specs.Fsm.{on_of};
 
-#[derive(Clone, Copy)]
+use std::error::Error;
+use std::fmt;
+
+#[derive(Clone, Copy, Debug, PartialEq, Eq, Hash)]
 pub enum Mode {
     // Motors off, on the ground.
     Disarmed,
@@ -31,16 +34,10 @@ impl Mode {
     pub fn is_airborne(self) -> bool
         ensures { result ≡ is_airborne_of self }
     {
-        match self {
-            Mode::Disarmed => false,
-            Mode::Armed => false,
-            Mode::Takeoff => true,
-            Mode::Loiter => true,
-            Mode::Mission => true,
-            Mode::Land => true,
-            Mode::Rtl => true,
-            Mode::Terminated => false,
-        }
+        matches!(
+            self,
+            Mode::Takeoff | Mode::Loiter | Mode::Mission | Mode::Land | Mode::Rtl
+        )
     }
 
     // How grave the mode is: a failsafe acts only where it wants a higher rank.
@@ -48,22 +45,20 @@ impl Mode {
         ensures { result ≡ rank_of self }
     {
         match self {
-            Mode::Disarmed => 1,
-            Mode::Armed => 1,
-            Mode::Takeoff => 1,
-            Mode::Loiter => 1,
-            Mode::Mission => 1,
-            Mode::Land => 3,
+            Mode::Disarmed | Mode::Armed | Mode::Takeoff | Mode::Loiter | Mode::Mission => 1,
             Mode::Rtl => 2,
+            Mode::Land => 3,
             Mode::Terminated => 4,
         }
     }
+}
 
-    // The mode's number in answers.
-    pub fn number(self) -> u32
-        ensures { result ≡ mode_number self }
-    {
-        match self {
+// The mode's number in answers.
+impl From<Mode> for u32 {
+    ghost from_gives = { λ m n. n ≡ mode_number m };
+
+    fn from(mode: Mode) -> u32 {
+        match mode {
             Mode::Disarmed => 0,
             Mode::Armed => 1,
             Mode::Takeoff => 2,
@@ -74,71 +69,44 @@ impl Mode {
             Mode::Terminated => 7,
         }
     }
+}
 
-    // Whether the mode is `other`.
-    pub fn is(self, other: Mode) -> bool
-        ensures { result ≡ is_mode self other }
-    {
-        self.number() == other.number()
+// A number that no mode has. An error of its own, whose Display says of what.
+#[derive(Clone, Copy, Debug, PartialEq, Eq, Hash)]
+pub struct UnknownMode(pub u32);
+
+impl fmt::Display for UnknownMode {
+    fn fmt<W: fmt::Write>(&self, f: &mut fmt::Formatter<W>) -> fmt::Result {
+        write!(f, "no mode has number {}", self.0)
     }
+}
 
-    // The row of the match that an event takes in this mode, of all but the last.
-    fn row(self, ev: Event, g: Gates) -> Transition
-        ensures { result ≡ row_of self ev g }
-    {
-        match ev {
-            Event::Arm => Transition::taken_if(
-                self.is(Mode::Disarmed) & g.level & g.throttle_low & g.prearm_ok,
-                Mode::Armed,
-            ),
-            Event::RequestTakeoff => {
-                Transition::taken_if(self.is(Mode::Armed) & g.have_position, Mode::Takeoff)
-            }
-            Event::RequestMission => Transition::taken_if(self.is(Mode::Loiter), Mode::Mission),
-            Event::RequestLoiter => Transition::taken_if(self.is(Mode::Mission), Mode::Loiter),
-            Event::RequestRtl => Transition::taken_if(
-                self.is(Mode::Loiter) | self.is(Mode::Mission) | self.is(Mode::Takeoff),
-                Mode::Rtl,
-            ),
-            Event::RequestLand => Transition::taken_if(
-                self.is(Mode::Loiter) | self.is(Mode::Mission) | self.is(Mode::Rtl),
-                Mode::Land,
-            ),
-            Event::RequestDisarm => Transition::taken_if(self.is(Mode::Armed), Mode::Disarmed),
-            Event::ReachedAltitude => Transition::taken_if(self.is(Mode::Takeoff), Mode::Loiter),
-            Event::ReachedHome => self.reached_home(g),
-            Event::Touchdown => Transition::taken_if(self.is(Mode::Land), Mode::Disarmed),
-            Event::Failsafe => self.failsafe(g),
-            Event::Terminate => Transition::Taken(Mode::Terminated),
-        }
-    }
+impl Error for UnknownMode {}
 
-    // Home reached: the mission ends in Loiter, the return in Land.
-    fn reached_home(self, g: Gates) -> Transition
-        ensures { result ≡ row_of self Event.ReachedHome g }
-    {
-        if self.is(Mode::Mission) {
-            return Transition::Taken(Mode::Loiter);
-        }
-        Transition::taken_if(self.is(Mode::Rtl), Mode::Land)
-    }
+// The mode with this number.
+#[tactic(auto, unfolding(crate::specs::Mode::mode_at, crate::specs::Mode::mode_at_of))]
+impl TryFrom<u32> for Mode {
+    type Error = UnknownMode;
 
-    // A failsafe: return while there is a position, land without one and where the return is under way.
-    fn failsafe(self, g: Gates) -> Transition
-        ensures { result ≡ row_of self Event.Failsafe g }
-    {
-        if self.is(Mode::Takeoff) | self.is(Mode::Loiter) | self.is(Mode::Mission) {
-            if g.have_position {
-                return Transition::Taken(Mode::Rtl);
-            }
-            return Transition::Taken(Mode::Land);
+    ghost try_from_gives = { λ n r. r ≡ ok_or (mode_at n) (record { 0 = n }) };
+
+    fn try_from(n: u32) -> Result<Mode, UnknownMode> {
+        match n {
+            0 => Ok(Mode::Disarmed),
+            1 => Ok(Mode::Armed),
+            2 => Ok(Mode::Takeoff),
+            3 => Ok(Mode::Loiter),
+            4 => Ok(Mode::Mission),
+            5 => Ok(Mode::Land),
+            6 => Ok(Mode::Rtl),
+            7 => Ok(Mode::Terminated),
+            _ => Err(UnknownMode(n)),
         }
-        Transition::taken_if(self.is(Mode::Rtl), Mode::Land)
     }
 }
 
 // Commands, and milestones that the supervisor senses.
-#[derive(Clone, Copy)]
+#[derive(Clone, Copy, Debug, PartialEq, Eq, Hash)]
 pub enum Event {
     Arm,
     RequestTakeoff,
@@ -154,38 +122,12 @@ pub enum Event {
     Terminate,
 }
 
-// The event that a number stands for.
-#[derive(Clone, Copy)]
-pub enum FoundEvent {
-    Known(Event),
-    Unknown,
-}
+// The event's number in command lines.
+impl From<Event> for u32 {
+    ghost from_gives = { λ e n. n ≡ event_number e };
 
-impl Event {
-    // How many events there are.
-    pub const COUNT: u32 = 12;
-
-    // The events by their numbers.
-    pub const ALL: [Event; 12] = [
-        Event::Arm,
-        Event::RequestTakeoff,
-        Event::RequestMission,
-        Event::RequestLoiter,
-        Event::RequestRtl,
-        Event::RequestLand,
-        Event::RequestDisarm,
-        Event::ReachedAltitude,
-        Event::ReachedHome,
-        Event::Touchdown,
-        Event::Failsafe,
-        Event::Terminate,
-    ];
-
-    // The event's number in command lines.
-    pub fn number(self) -> u32
-        ensures { result ≡ event_number self }
-    {
-        match self {
+    fn from(ev: Event) -> u32 {
+        match ev {
             Event::Arm => 0,
             Event::RequestTakeoff => 1,
             Event::RequestMission => 2,
@@ -200,22 +142,48 @@ impl Event {
             Event::Terminate => 11,
         }
     }
+}
 
-    // The event with this number.
-    pub fn from_number(n: u32) -> FoundEvent
-        ensures { result ≡ event_at n }
-    {
-        if n < Event::COUNT {
-            let i = n as usize;
-            let ev = Event::ALL[i];
-            return FoundEvent::Known(ev);
+// A number that no event has. An error of its own, whose Display says of what.
+#[derive(Clone, Copy, Debug, PartialEq, Eq, Hash)]
+pub struct UnknownEvent(pub u32);
+
+impl fmt::Display for UnknownEvent {
+    fn fmt<W: fmt::Write>(&self, f: &mut fmt::Formatter<W>) -> fmt::Result {
+        write!(f, "no event has number {}", self.0)
+    }
+}
+
+impl Error for UnknownEvent {}
+
+// The event with this number.
+#[tactic(auto, unfolding(crate::specs::Event::event_at))]
+impl TryFrom<u32> for Event {
+    type Error = UnknownEvent;
+
+    ghost try_from_gives = { λ n r. r ≡ ok_or (event_at n) (record { 0 = n }) };
+
+    fn try_from(n: u32) -> Result<Event, UnknownEvent> {
+        match n {
+            0 => Ok(Event::Arm),
+            1 => Ok(Event::RequestTakeoff),
+            2 => Ok(Event::RequestMission),
+            3 => Ok(Event::RequestLoiter),
+            4 => Ok(Event::RequestRtl),
+            5 => Ok(Event::RequestLand),
+            6 => Ok(Event::RequestDisarm),
+            7 => Ok(Event::ReachedAltitude),
+            8 => Ok(Event::ReachedHome),
+            9 => Ok(Event::Touchdown),
+            10 => Ok(Event::Failsafe),
+            11 => Ok(Event::Terminate),
+            _ => Err(UnknownEvent(n)),
         }
-        FoundEvent::Unknown
     }
 }
 
 // What the machine checks before a guarded transition.
-#[derive(Clone, Copy)]
+#[derive(Clone, Copy, Debug, PartialEq, Eq, Hash)]
 pub struct Gates {
     // The attitude is within the arming limit.
     pub level: bool,
@@ -227,37 +195,8 @@ pub struct Gates {
     pub prearm_ok: bool,
 }
 
-// What an event does: a row of the match applies and leads to a mode, or none applies.
-#[derive(Clone, Copy)]
-pub enum Transition {
-    Taken(Mode),
-    Ignored,
-}
-
-impl Transition {
-    // The row that leads to `mode` where it applies.
-    fn taken_if(applies: bool, mode: Mode) -> Transition
-        ensures { result ≡ taken_if_of applies mode }
-    {
-        if applies {
-            return Transition::Taken(mode);
-        }
-        Transition::Ignored
-    }
-
-    // The mode after the transition, from `mode`: the same where no row applies.
-    fn applied(self, mode: Mode) -> Mode
-        ensures { result ≡ applied_of self mode }
-    {
-        match self {
-            Transition::Taken(next) => next,
-            Transition::Ignored => mode,
-        }
-    }
-}
-
 // The flight-mode state machine.
-#[derive(Clone, Copy)]
+#[derive(Clone, Copy, Debug, PartialEq, Eq, Hash)]
 pub struct FlightFsm {
     pub mode: Mode,
 }
@@ -283,18 +222,37 @@ impl FlightFsm {
     pub fn is_airborne(self) -> bool
         ensures { result ≡ is_airborne_of self.mode }
     {
-        let mode = self.mode;
-        mode.is_airborne()
+        self.mode.is_airborne()
     }
 
     // The machine after an event under the gates.
+    #[tactic(auto, unfolding(crate::specs::Fsm::on_of, crate::specs::Fsm::row_of))]
     pub fn on(self, ev: Event, g: Gates) -> FlightFsm
         ensures { result ≡ record { mode = on_of self.mode ev g } }
     {
-        let mode = self.mode;
-        let transition = mode.row(ev, g);
-        FlightFsm {
-            mode: transition.applied(mode),
-        }
+        let mode = match (self.mode, ev) {
+            (Mode::Disarmed, Event::Arm) if g.level && g.throttle_low && g.prearm_ok => Mode::Armed,
+            (Mode::Armed, Event::RequestDisarm) => Mode::Disarmed,
+            (Mode::Land, Event::Touchdown) => Mode::Disarmed,
+            (Mode::Armed, Event::RequestTakeoff) if g.have_position => Mode::Takeoff,
+            (Mode::Takeoff, Event::ReachedAltitude) => Mode::Loiter,
+            (Mode::Loiter, Event::RequestMission) => Mode::Mission,
+            (Mode::Mission, Event::RequestLoiter) => Mode::Loiter,
+            (Mode::Mission, Event::ReachedHome) => Mode::Loiter,
+            (Mode::Loiter | Mode::Mission | Mode::Rtl, Event::RequestLand) => Mode::Land,
+            (Mode::Loiter | Mode::Mission | Mode::Takeoff, Event::RequestRtl) => Mode::Rtl,
+            (Mode::Rtl, Event::ReachedHome) => Mode::Land,
+            (Mode::Takeoff | Mode::Loiter | Mode::Mission, Event::Failsafe) => {
+                if g.have_position {
+                    Mode::Rtl
+                } else {
+                    Mode::Land
+                }
+            }
+            (Mode::Rtl, Event::Failsafe) => Mode::Land,
+            (_, Event::Terminate) => Mode::Terminated,
+            (mode, _) => mode,
+        };
+        FlightFsm { mode }
     }
 }

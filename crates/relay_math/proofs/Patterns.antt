@@ -14,8 +14,7 @@ use lib.Ieee.Exact.{HasValue, odd_sign}
 use lib.Ieee.Digits.{size-lt, size-le, size_reaches}
 use lib.Ieee.Fits.{and_l, and_r, up_pos, down_pos, kept-lt}
 use Rattle.relay_math.specs.Root.{special_operands_of}
-use Rattle.relay_math.specs.declared.root.Operand.{Operand}
-use Rattle.relay_math.specs.declared.root.Operand.TheVariants.{Special, AboveZero}
+use Rattle.std.proofs.Common.{None}
 use Rattle.relay_math.proofs.Scale.{four}
 
 -- ---- the fields of a pattern
@@ -115,13 +114,6 @@ value_subnormal b k h g =
     (value_of_odd b 0))
 
 -- ---- the pattern of an operand above zero
-abbrev special : Operand → ℕ
-special (Special r) = 1
-special AboveZero = 0
-
-not_special : {y : Float} → Special y ≡ AboveZero → ⊥
-not_special e = let z : ◌≡◌ {A = ℕ} 1 0 = ap special e in omega arith
-
 -- a number of at least one and below 2 ^ 277 smallest values
 units_of : (m : ℕ) (e : ℤ) → T (fits binary32 (fin false (suc m) e)) → (0 < suc m * up e * 2 ^ 149 / down e) × (suc m * up e * 2 ^ 149 / down e < 2 ^ 277)
 unfolding fits
@@ -133,20 +125,20 @@ units_of m e h =
     let one : 1 * down e ≤ suc m * up e * 2 ^ 149 = mul-le-mul (mul-pos (zero-lt-suc m) (up_pos e)) d in
     ((le-div_iff_mul-le (down_pos e)).1 one, (div-lt_iff_lt-mul (down_pos e)).1 w)
 
-pub above_number : (x : Float) → special_operands_of x ≡ AboveZero → is_nan x ≡ false
+pub above_number : (x : Float) → special_operands_of x ≡ None → is_nan x ≡ false
 unfolding special_operands_of is_nan
-above_number nan a = absurd (not_special a)
+above_number nan a = cc
 above_number (inf s) a = refl
 above_number (fin s m e) a = refl
 
 -- the patterns between zero's and infinity's
-pub above_bits : (x : Float) → T (fits binary32 x) → special_operands_of x ≡ AboveZero → (0 < to_bits binary32 x) × (to_bits binary32 x < 2139095040)
+pub above_bits : (x : Float) → T (fits binary32 x) → special_operands_of x ≡ None → (0 < to_bits binary32 x) × (to_bits binary32 x < 2139095040)
 unfolding special_operands_of to_bits
-above_bits nan h a = absurd (not_special a)
-above_bits (inf false) h a = absurd (not_special a)
-above_bits (inf true) h a = absurd (not_special a)
-above_bits (fin s zero e) h a = absurd (not_special a)
-above_bits (fin true (suc m) e) h a = absurd (not_special a)
+above_bits nan h a = cc
+above_bits (inf false) h a = cc
+above_bits (inf true) h a = cc
+above_bits (fin s zero e) h a = cc
+above_bits (fin true (suc m) e) h a = cc
 above_bits (fin false (suc m) e) h a =
     let u = units_of m e h in
     let n = suc m * up e * 2 ^ 149 / down e in

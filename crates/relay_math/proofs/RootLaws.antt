@@ -17,7 +17,7 @@ use lib.Ieee.Order.{le_of_values}
 use lib.Ieee.Positive.{positive}
 use lib.Ieee.Scale.{finite}
 use Rattle.relay_math.specs.Root.{Exact, whole_root_of, nearest_root_of, special_operands_of, unlimited_precision_of, rounding, exponent_range_of, root_of, root}
-use Rattle.relay_math.specs.declared.root.Operand.TheVariants.{AboveZero}
+use Rattle.std.proofs.Common.{None}
 use Rattle.relay_math.proofs.Nearer.{Nearer, nearer_one, nearer_than, same_value}
 use Rattle.relay_math.proofs.Patterns.{Even, evened, zeros, value_shrink, value_normal, value_subnormal, above_bits}
 use Rattle.relay_math.proofs.Rounding.{exact_at, nearest_24, size_24, rounding_at, range_inside, below_power}
@@ -54,7 +54,7 @@ pub root_of_negative : (x : Float) → T (lt x Zero) → root x ≡ nan
 root_of_negative x h = sym (root_special x nan (sym (negative x (is_true (lt x Zero) h))))
 
 -- a finite number above zero has no rule of its own
-above : (x : Float) → T (positive x) → special_operands_of x ≡ AboveZero
+above : (x : Float) → T (positive x) → special_operands_of x ≡ None
 unfolding special_operands_of
 above nan p = absurd p
 above (inf s) p = absurd p

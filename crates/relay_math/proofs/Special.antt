@@ -6,16 +6,17 @@ use native.Mathlib.Nat.{zero-lt-suc, zero-mul, mul-pos, lt_irrefl}
 use native.Mathlib.Omega.{arith}
 use lib.IntN.{ℤ}
 use lib.Dec.{ltb, ltb→lt, lt→ltb}
-use lib.Ieee.{Float, nan, inf, fin, binary32, up, down, below, div, lt, of_bits}
+use lib.Ieee.{Float, nan, inf, fin, binary32, up, down, below, lt, of_bits}
 use lib.Ieee.Bits.{is_true}
 use lib.Ieee.Fits.{up_pos}
-use Rattle.relay_math.specs.Root.{special_operands_of, unlimited_precision_of, rounding, exponent_range_of, operand_or, root_of, root}
-use Rattle.relay_math.specs.declared.root.Operand.{Operand}
-use Rattle.relay_math.specs.declared.root.Operand.TheVariants.{Special, AboveZero}
-use Rattle.relay_math.proofs.Small.{infinity}
+use Rattle.relay_math.specs.Root.{special_operands_of, unlimited_precision_of, rounding, exponent_range_of, root_of, root}
+use Rattle.std.proofs.Common.{Some, None}
 
 abbrev pub Zero : Float
 Zero = of_bits binary32 0
+
+abbrev Infinity : Float
+Infinity = of_bits binary32 0x7f80_0000
 
 -- a zero is below no zero
 zero_level : (s t : Bool) (a b : ℕ) → a ≡ 0 → b ≡ 0 → below s a t b ≡ false
@@ -42,8 +43,8 @@ unfolding lt of_bits
 less m e = is_true (ltb 0 (suc m * up e * 1 + 0 * 1 * down e)) (lt→ltb 0 (suc m * up e * 1 + 0 * 1 * down e) (let p : 0 < suc m * up e = mul-pos (zero-lt-suc m) (up_pos e) in omega arith))
 
 -- above zero and below infinity
-pub between : (x : Float) → lt Zero x ≡ true → lt x infinity ≡ true → AboveZero ≡ special_operands_of x
-unfolding special_operands_of lt div of_bits
+pub between : (x : Float) → lt Zero x ≡ true → lt x Infinity ≡ true → None ≡ special_operands_of x
+unfolding special_operands_of lt of_bits
 between nan h k = absurd (true≢false (sym h))
 between (inf false) h k = absurd (true≢false (sym k))
 between (inf true) h k = absurd (true≢false (sym h))
@@ -52,15 +53,15 @@ between (fin true (suc m) e) h k = absurd (true≢false (sym h))
 between (fin false (suc m) e) h k = refl
 
 -- above zero and not below infinity
-pub infinite : (x : Float) → lt Zero x ≡ true → lt x infinity ≡ false → Special x ≡ special_operands_of x
-unfolding special_operands_of lt div of_bits
+pub infinite : (x : Float) → lt Zero x ≡ true → lt x Infinity ≡ false → Some x ≡ special_operands_of x
+unfolding special_operands_of lt of_bits
 infinite nan h k = refl
 infinite (inf false) h k = refl
 infinite (inf true) h k = absurd (true≢false (sym h))
 infinite (fin s m e) h k = absurd (true≢false k)
 
 -- below zero
-pub negative : (x : Float) → lt x Zero ≡ true → Special nan ≡ special_operands_of x
+pub negative : (x : Float) → lt x Zero ≡ true → Some nan ≡ special_operands_of x
 unfolding special_operands_of lt of_bits
 negative nan h = refl
 negative (inf false) h = absurd (true≢false (sym h))
@@ -73,7 +74,7 @@ negative (fin false (suc m) e) h = absurd (lt_irrefl 0 (never m e h))
     never m e g = absurd (let l = ltb→lt (suc m * up e * 1) (0 * 1 * down e) (rw g tt) in omega (arith, zero-mul (down e)))
 
 -- neither
-pub neither : (x : Float) → lt Zero x ≡ false → lt x Zero ≡ false → Special x ≡ special_operands_of x
+pub neither : (x : Float) → lt Zero x ≡ false → lt x Zero ≡ false → Some x ≡ special_operands_of x
 unfolding special_operands_of lt of_bits
 neither nan h k = refl
 neither (inf false) h k = refl
@@ -83,10 +84,10 @@ neither (fin true (suc m) e) h k = absurd (true≢false (sym (less m e) ∙ k))
 neither (fin false (suc m) e) h k = absurd (true≢false (sym (more m e) ∙ h))
 
 -- ---- the root of either sort
-pub root_special : (x y : Float) → special_operands_of x ≡ Special y → y ≡ root x
+pub root_special : (x y : Float) → special_operands_of x ≡ Some y → y ≡ root x
 unfolding root_of
-root_special x y e = let exact = unlimited_precision_of x in sym (ap (λ (o : Operand). operand_or o (exponent_range_of binary32 exact (rounding binary32 exact))) e)
+root_special x y e = simp e
 
-pub root_above : (x : Float) → special_operands_of x ≡ AboveZero → exponent_range_of binary32 (unlimited_precision_of x) (rounding binary32 (unlimited_precision_of x)) ≡ root x
+pub root_above : (x : Float) → special_operands_of x ≡ None → exponent_range_of binary32 (unlimited_precision_of x) (rounding binary32 (unlimited_precision_of x)) ≡ root x
 unfolding root_of
-root_above x e = let exact = unlimited_precision_of x in sym (ap (λ (o : Operand). operand_or o (exponent_range_of binary32 exact (rounding binary32 exact))) e)
+root_above x e = simp e

@@ -1,6 +1,6 @@
 -- Squares of whole numbers, and what a step of Newton's method towards a root gives. Assumes nothing.
 use mathlib.Core.Path.{◌≡◌, subst}
-use Prim.Native.Nat.{ℕ, zero, suc, ◌+◌, ◌*◌, ◌/◌, ◌≤◌, ◌<◌}
+use Prim.Native.Nat.{ℕ, suc, ◌+◌, ◌*◌, ◌/◌, ◌≤◌, ◌<◌}
 use native.Mathlib.Nat.{le_of_lt, lt_of_not-le, not-le_of_lt, lt-suc_self, le_dest, add-mul, mul-add, mul_assoc, mul_comm, mul-mul-mul_comm, mul-le-mul, mul-le-mul_right, div-lt_iff_lt-mul}
 use native.Mathlib.Decide.{dec_le}
 use native.Mathlib.Omega.{arith}
@@ -19,10 +19,6 @@ sq_lt a b h = let k : (a + 1) * (a + 1) ≤ b * b = mul-le-mul (next a b h) (nex
 
 pub sq_lt_back : (a b : ℕ) → a * a < b * b → a < b
 sq_lt_back a b h = lt_of_not-le (λ (g : b ≤ a). not-le_of_lt h (mul-le-mul g g))
-
-pub sq_pos : (n r : ℕ) → n < r * r → 0 < r
-sq_pos n zero h = omega arith
-sq_pos n (suc r) h = omega arith
 
 -- twice a product is at most the two squares
 ordered : (a b : ℕ) → a ≤ b → 2 * (a * b) ≤ a * a + b * b

@@ -1,10 +1,8 @@
 -- The square root of IEEE 754-2019 (5.4.1), rounded to nearest even, over whole numbers and in the standard's order: the special operands, the result as if to unlimited precision, the rounding, the exponent's range.
 use Prim.Native.Nat.{ℕ, zero, suc, ◌+◌, ◌-◌, ◌*◌, ◌/◌, ◌^◌, compare}
-use Rattle.std.specs.Prelude.{true, false, cond, ℤ, pos, negsuc, leb, ltb, Float}
+use Rattle.std.specs.Prelude.{true, false, cond, ℤ, pos, negsuc, leb, ltb, Option, Some, None, unwrap_or, Float}
 use Rattle.std.specs.Float.{nan, inf, fin, Format, binary32}
 use Rattle.std.specs.Float.Ieee.{prec, emax, low, up, down, size, nearest, odd, lt}
-use Rattle.relay_math.specs.declared.root.Operand.{Operand}
-use Rattle.relay_math.specs.declared.root.Operand.TheVariants.{Special, AboveZero}
 
 -- ---- the exact root and the whole number nearest to it
 -- the whole root of an n of at most d pairs of binary digits, from the pairs before the last
@@ -29,14 +27,14 @@ pub record Exact : Type 0 where
   pub places : ℕ
 
 -- ---- the four steps, with the standard's clauses
--- 1. The special operands (6.1, 6.2, 6.3, 7.2): plus infinity, NaN and a zero are their own root, and what is below zero has none: NaN.
-unfoldable pub special_operands_of : Float → Operand
-special_operands_of nan = Special nan
-special_operands_of (inf false) = Special (inf false)
-special_operands_of (inf true) = Special nan
-special_operands_of (fin s zero e) = Special (fin s zero e)
-special_operands_of (fin true (suc m) e) = Special nan
-special_operands_of (fin false (suc m) e) = AboveZero
+-- 1. The special operands (6.1, 6.2, 6.3, 7.2): plus infinity, NaN and a zero are their own root, and what is below zero has none: NaN. A finite number above zero is no special operand.
+unfoldable pub special_operands_of : Float → Option Float
+special_operands_of nan = Some nan
+special_operands_of (inf false) = Some (inf false)
+special_operands_of (inf true) = Some nan
+special_operands_of (fin s zero e) = Some (fin s zero e)
+special_operands_of (fin true (suc m) e) = Some nan
+special_operands_of (fin false (suc m) e) = None
 
 -- how many binary places 2 ^ e has behind the point: down e is 2 ^ behind e
 abbrev pub behind : ℤ → ℕ
@@ -71,14 +69,9 @@ exponent_range_of f x y =
     let smallest = nearest_root_of (x.radicand * 4 ^ low f) x.places in
     cond tiny (odd (suc (prec f)) false smallest 0 (low f)) (cond (lt y (fin false 1 (pos (overflow_exponent f)))) y (inf false))
 
--- a special operand's result, and y for any other
-abbrev pub operand_or : Operand → Float → Float
-operand_or (Special r) y = r
-operand_or AboveZero y = y
-
--- squareRoot (5.4.1): the four steps in their order
+-- squareRoot (5.4.1): the four steps in their order; a special operand's result is its own
 unfoldable pub root_of : Format → Float → Float
-root_of f x = let exact = unlimited_precision_of x in operand_or (special_operands_of x) (exponent_range_of f exact (rounding f exact))
+root_of f x = let exact = unlimited_precision_of x in unwrap_or (special_operands_of x) (exponent_range_of f exact (rounding f exact))
 
 -- `relay_math::sqrtf`
 abbrev pub root : Float → Float

@@ -1,5 +1,5 @@
 -- What the code of the root holds between its steps, in the numbers of Root.antt.
-use Rattle.std.specs.Prelude.{ℕ, ◌+◌, ◌-◌, ◌*◌, ◌^◌, ◌≤◌, ◌<◌, ◌≡◌, false, Float}
+use Rattle.std.specs.Prelude.{ℕ, ◌*◌, ◌^◌, ◌≡◌, false, Float}
 use Rattle.std.specs.Float.Ieee.{odd}
 use Rattle.relay_math.specs.Root.{Exact}
 use Rattle.relay_math.specs.declared.root.ExactRoot.{ExactRoot}
@@ -7,10 +7,6 @@ use Rattle.relay_math.specs.declared.root.ExactRoot.{ExactRoot}
 -- two ways to write one exact number
 abbrev pub SameRoot : Exact → Exact → Type 0
 SameRoot x y = x.radicand * 4 ^ y.places ≡ y.radicand * 4 ^ x.places
-
--- q is the whole root of n, and has 24 digits, also where it is rounded up
-abbrev pub Digits24 : ExactRoot → Type 0
-Digits24 x = (2 ^ 46 ≤ x.n) × (x.n ≤ 2 ^ 48 - 2 ^ 24) × (x.q * x.q ≤ x.n) × (x.n < (x.q + 1) * (x.q + 1))
 
 -- √n * 2 ^ e / 2 ^ 173
 abbrev pub exact_of : ExactRoot → Exact

@@ -2,12 +2,14 @@
 use mathlib.Core.Path.{◌≡◌, refl, sym, ap, ◌∙◌, subst}
 use mathlib.Core.Bool.{Bool, true, false, cond, ◌&&◌}
 use mathlib.Core.List.{List, [], ◌∷◌, map}
-use Prim.Native.Nat.{ℕ, ◌+◌, ◌≤◌, ◌<◌}
+use Prim.Native.Nat.{ℕ, ◌≤◌, ◌<◌}
 use native.Mathlib.Nat.{lt_of_lt_of_le}
 use borrow.Author.Tests.{ltb-true, eqb-true}
 use lib.Dec.{ltb, eqb}
 use lib.ListN.{length}
-use Rattle.relay_preflight.specs.Check.{check_count, check_number, all_checks}
+use Rattle.std.specs.Prelude.{count_by}
+use Rattle.std.specs.List.{list_all}
+use Rattle.relay_preflight.specs.Check.{check_count, check_number, check_at_of, all_checks}
 use Rattle.relay_preflight.specs.declared.CheckId.{CheckId}
 use Rattle.relay_preflight.specs.declared.CheckId.TheVariants.{SensorsHealthy, EstimatorConverged, CalibrationPresent, GeofenceLoaded, BatteryOk, FailsafeConfigured, EstimatorInnovation}
 use Rattle.relay_preflight.specs.declared.CheckId.TheVariants.{GnssAgreement, ParamsFromNvm, GeofenceSane, ThresholdsOrdered, SensorsFresh, EscTelemetry, BatteryTakeoffMargin}
@@ -18,10 +20,34 @@ abbrev pub Each : (CheckId → Type 0) → List CheckId → Type 0
 Each P [] = Unit
 Each P (x ∷ xs) = P x × Each P xs
 
--- how many checks of a list a test holds of
-abbrev pub count_of : (CheckId → Bool) → List CheckId → ℕ
-count_of f [] = 0
-count_of f (x ∷ xs) = cond (f x) 1 0 + count_of f xs
+-- every check stands at its number
+pub by_number : (id : CheckId) → check_at_of (check_number id) ≡ id
+unfolding check_at_of
+by_number SensorsHealthy = refl
+by_number EstimatorConverged = refl
+by_number CalibrationPresent = refl
+by_number GeofenceLoaded = refl
+by_number BatteryOk = refl
+by_number FailsafeConfigured = refl
+by_number EstimatorInnovation = refl
+by_number GnssAgreement = refl
+by_number ParamsFromNvm = refl
+by_number GeofenceSane = refl
+by_number ThresholdsOrdered = refl
+by_number SensorsFresh = refl
+by_number EscTelemetry = refl
+by_number BatteryTakeoffMargin = refl
+by_number RangefinderPlausible = refl
+by_number CalibrationFresh = refl
+by_number RcLink = refl
+by_number GcsLink = refl
+by_number NoFailsafeLatched = refl
+by_number MotorsHealthy = refl
+by_number InsideGeofence = refl
+
+-- two checks of one number are one check
+pub number_injective : (a b : CheckId) → check_number a ≡ check_number b → a ≡ b
+number_injective a b e = sym (by_number a) ∙ ap check_at_of e ∙ by_number b
 
 -- the check of number n in a list
 abbrev with_number : ℕ → List CheckId → CheckId
@@ -53,10 +79,6 @@ numbered NoFailsafeLatched = refl
 numbered MotorsHealthy = refl
 numbered InsideGeofence = refl
 
--- two checks of one number are one check
-pub number_injective : (a b : CheckId) → check_number a ≡ check_number b → a ≡ b
-number_injective a b e = sym (numbered a) ∙ ap (λ (n : ℕ). with_number n all_checks) e ∙ numbered b
-
 one_of : (P : CheckId → Type 0) (b : Bool) (x y : CheckId) → P x → P y → P (cond b x y)
 one_of P true x y p q = p
 one_of P false x y p q = q
@@ -75,21 +97,17 @@ pub each_of : (P : CheckId → Type 0) → ((id : CheckId) → P id) → (l : Li
 each_of P f [] = tt
 each_of P f (x ∷ xs) = (f x, each_of P f xs)
 
-abbrev every : (CheckId → Bool) → List CheckId → Bool
-every f [] = true
-every f (x ∷ xs) = f x && every f xs
-
 and_parts : (a b : Bool) → (a && b) ≡ true → (a ≡ true) × (b ≡ true)
 and_parts true b e = (refl, e)
 and_parts false true e = (e, refl)
 and_parts false false e = (e, e)
 
-every_each : (f : CheckId → Bool) (l : List CheckId) → every f l ≡ true → Each (λ id. f id ≡ true) l
+every_each : (f : CheckId → Bool) (l : List CheckId) → list_all f l ≡ true → Each (λ id. f id ≡ true) l
 every_each f [] e = tt
-every_each f (x ∷ xs) e = let p = and_parts (f x) (every f xs) e in (p.0, every_each f xs p.1)
+every_each f (x ∷ xs) e = let p = and_parts (f x) (list_all f xs) e in (p.0, every_each f xs p.1)
 
 -- a test that computes to true over `all_checks` is true of every check
-computed : (f : CheckId → Bool) → every f all_checks ≡ true → (id : CheckId) → f id ≡ true
+computed : (f : CheckId → Bool) → list_all f all_checks ≡ true → (id : CheckId) → f id ≡ true
 computed f e = each_check (λ id. f id ≡ true) (every_each f all_checks e)
 
 -- a check's number is below 21
@@ -113,8 +131,8 @@ unfolding all_checks
 all_numbers = refl
 
 -- `all_checks` holds each check exactly once
-pub all_once : (id : CheckId) → count_of (λ x. eqb (check_number x) (check_number id)) all_checks ≡ 1
+pub all_once : (id : CheckId) → count_by (λ x. eqb (check_number x) (check_number id)) all_checks ≡ 1
 unfolding all_checks
 all_once id =
     eqb-true _ _
-    (computed (λ y. eqb (count_of (λ x. eqb (check_number x) (check_number y)) all_checks) 1) refl id)
+    (computed (λ y. eqb (count_by (λ x. eqb (check_number x) (check_number y)) all_checks) 1) refl id)

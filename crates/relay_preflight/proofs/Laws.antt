@@ -1,24 +1,38 @@
 -- What the check table promises: setting a check, the first blocker, and the count of outstanding checks. Assumes nothing.
-use mathlib.Core.Path.{◌≡◌, refl, sym, ap, ◌∙◌}
-use mathlib.Core.Bool.{Bool, true, false, cond, not, ◌&&◌, ◌||◌}
+use mathlib.Core.Path.{◌≡◌, refl, sym, ap, ap₂, ◌∙◌}
+use mathlib.Core.Bool.{Bool, true, false, cond, ◌||◌}
 use mathlib.Core.List.{List, [], ◌∷◌, ◌++◌}
 use mathlib.Core.Logic.{◌↔◌}
 use Prim.Native.Nat.{ℕ, zero, suc, ◌+◌, ◌*◌, ◌/◌, ◌%◌, ◌^◌, ◌≤◌, ◌<◌}
 use native.Mathlib.Nat.{lt_of_le_of_lt, le_refl, le_of_lt, mod-lt, pow-suc}
 use native.Mathlib.Omega.{arith}
-use borrow.Author.Tests.{eq-eqb, ne_eqb, le-ltb}
+use Rattle.std.proofs.lemmas.List.Sums.{sum_by-cons}
+use Rattle.std.proofs.lemmas.Bool.Decides.{nat_tests}
+use Rattle.std.proofs.Common.{rules}
+use borrow.Author.Tests.{tests, lt-ltb, eq-eqb, ne_eqb, le-ltb}
 use lib.Dec.{eqb, ltb, lit<, lit≤}
 use lib.Count.{ones, ones_step, ones-le}
 use lib.Bits.{and_le_l}
-use Rattle.relay_preflight.specs.Check.{check_count, check_number, all_checks}
+use Rattle.relay_preflight.specs.Check.{check_count, check_number, check_at_of, check_at, all_checks}
 use Rattle.relay_preflight.specs.Table.{mask_limit, bit_of, set_of, legacy_passed_of, is_required_of, passed_of, fails_of, failing_mask_of, outstanding_of}
-use Rattle.relay_preflight.specs.Verdict.{first_in, first_blocker_of, no_blocker, blocker_number}
+use Rattle.relay_preflight.specs.Verdict.{first_blocker_of, no_blocker, blocker_number}
 use Rattle.relay_preflight.specs.declared.CheckId.{CheckId}
 use Rattle.relay_preflight.specs.declared.CheckTable.{CheckTable}
-use Rattle.relay_preflight.specs.declared.TableVerdict.{TableVerdict}
-use Rattle.relay_preflight.specs.declared.TableVerdict.TheVariants.{Allowed, Blocked}
+use Rattle.std.specs.Prelude.{Option, Some, None, find, count_by}
 use Rattle.relay_preflight.proofs.Bits.{bit_low, bit_half, bit_zero, bit_and_lem, bit_not, bit_with, with_lt}
-use Rattle.relay_preflight.proofs.Checks.{Each, count_of, number_lt, number_in, number_injective, each_check, each_of}
+use Rattle.relay_preflight.proofs.Checks.{Each, by_number, number_lt, number_in, number_injective, each_check, each_of}
+
+-- ---- checks by their numbers
+
+-- the check with a check's number is that check
+pub check_at_number : (id : CheckId) → check_at (check_number id) ≡ Some id
+unfolding check_at check_at_of
+check_at_number id = simp (lt-ltb (check_number id) check_count (number_lt id), by_number id)
+
+-- the numbers from 21 on are no check's
+pub check_at_unknown : (n : ℕ) → check_count ≤ n → check_at n ≡ None
+unfolding check_at
+check_at_unknown n h = simp (le-ltb n check_count h)
 
 -- ---- setting a check
 
@@ -63,16 +77,7 @@ legacy_required t = simp set_required
 below_six : (n : ℕ) (x : Bool)
     → cond (eqb 5 n) true (cond (eqb 4 n) true (cond (eqb 3 n) true (cond (eqb 2 n) true (cond (eqb 1 n) true (cond (eqb 0 n) true x)))))
     ≡ (ltb n 6 || x)
-below_six zero x = refl
-below_six (suc zero) x = refl
-below_six (suc (suc zero)) x = refl
-below_six (suc (suc (suc zero))) x = refl
-below_six (suc (suc (suc (suc zero)))) x = refl
-below_six (suc (suc (suc (suc (suc zero))))) x = refl
-below_six (suc (suc (suc (suc (suc (suc n)))))) x =
-    let m : ℕ = suc (suc (suc (suc (suc (suc n))))) in
-    let d : (k : ℕ) → k < 6 → eqb k m ≡ false = λ k h. ne_eqb k m (λ e. omega arith) in
-    simp (d 5 (lit< tt), d 4 (lit< tt), d 3 (lit< tt), d 2 (lit< tt), d 1 (lit< tt), d 0 (lit< tt), le-ltb m 6 (omega arith))
+below_six n x = grind (arith, nat_tests)
 
 -- checks 0..5 have passed, and every other stays
 pub legacy_passed_lem : (t : CheckTable) (id : CheckId) → passed_of (legacy_passed_of t) id ≡ (ltb (check_number id) 6 || passed_of t id)
@@ -87,16 +92,10 @@ legacy_lt w l t h =
 
 -- ---- the first blocker
 
-and_not : (a b : Bool) → (a && not b) ≡ true → (a ≡ true) × (b ≡ false)
-and_not true false e = (refl, refl)
-and_not true true e = (refl, sym e)
-and_not false true e = (e, sym e)
-and_not false false e = (e, refl)
-
 -- a check that fails is required and has not passed
 pub fails_is : (t : CheckTable) (id : CheckId) → fails_of t id ≡ true → (is_required_of t id ≡ true) × (passed_of t id ≡ false)
 unfolding fails_of
-fails_is t id e = and_not (is_required_of t id) (passed_of t id) e
+fails_is t id e = search (rules, tests)
 
 -- `id` is the first check of a list that fails
 pub record FirstFailing (t : CheckTable) (id : CheckId) (l : List CheckId) : Type 0 where
@@ -107,18 +106,16 @@ pub record FirstFailing (t : CheckTable) (id : CheckId) (l : List CheckId) : Typ
   pub others : Each (λ x. fails_of t x ≡ false) before
 
 skip : (t : CheckTable) (id : CheckId) (before after : List CheckId) → fails_of t id ≡ true → Each (λ x. fails_of t x ≡ false) before
-    → first_in t (before ++ id ∷ after) ≡ Blocked id
-unfolding first_in
+    → find (fails_of t) (before ++ id ∷ after) ≡ Some id
 skip t id [] after f h = simp f
 skip t id (x ∷ xs) after f h = simp (h.0, skip t id xs after f h.1)
 
-found : (t : CheckTable) (id : CheckId) (l : List CheckId) → first_in t l ≡ Blocked id → FirstFailing t id l
-unfolding first_in
-found t id [] e = let z : ◌≡◌ {A = ℕ} 0 1 = cc in absurd (omega arith)
+found : (t : CheckTable) (id : CheckId) (l : List CheckId) → find (fails_of t) l ≡ Some id → FirstFailing t id l
+found t id [] e = cc
 found t id (x ∷ xs) e = go (fails_of t x) refl e (found t id xs)
   where
-    go : (b : Bool) → fails_of t x ≡ b → cond b (Blocked x) (first_in t xs) ≡ Blocked id
-        → (first_in t xs ≡ Blocked id → FirstFailing t id xs) → FirstFailing t id (x ∷ xs)
+    go : (b : Bool) → fails_of t x ≡ b → cond b (Some x) (find (fails_of t) xs) ≡ Some id
+        → (find (fails_of t) xs ≡ Some id → FirstFailing t id xs) → FirstFailing t id (x ∷ xs)
     go true f e rest =
         let q : x ≡ id = cc in
         record { before = []; after = xs; place = ap (λ (y : CheckId). y ∷ xs) q; fails = simp q at f; others = tt }
@@ -127,48 +124,47 @@ found t id (x ∷ xs) e = go (fails_of t x) refl e (found t id xs)
         record { before = x ∷ r.before; after = r.after; place = ap (λ (l : List CheckId). x ∷ l) r.place; fails = r.fails; others = (f, r.others) }
 
 -- a check blocks exactly where it fails and every check before it in `all_checks` does not
-pub blocked_iff : (t : CheckTable) (id : CheckId) → (first_blocker_of t ≡ Blocked id) ↔ FirstFailing t id all_checks
+pub blocked_iff : (t : CheckTable) (id : CheckId) → (first_blocker_of t ≡ Some id) ↔ FirstFailing t id all_checks
 unfolding first_blocker_of
 blocked_iff t id =
-    (λ e. found t id all_checks e, λ r. ap (first_in t) r.place ∙ skip t id r.before r.after r.fails r.others)
+    (λ e. found t id all_checks e, λ r. ap (find (fails_of t)) r.place ∙ skip t id r.before r.after r.fails r.others)
 
-none_fails : (t : CheckTable) (l : List CheckId) → (first_in t l ≡ Allowed) ↔ Each (λ x. fails_of t x ≡ false) l
-unfolding first_in
+none_fails : (t : CheckTable) (l : List CheckId) → (find (fails_of t) l ≡ None) ↔ Each (λ x. fails_of t x ≡ false) l
 none_fails t [] = (λ e. tt, λ h. refl)
 none_fails t (x ∷ xs) = (λ e. go (fails_of t x) refl e (none_fails t xs).0, λ h. simp (h.0, (none_fails t xs).1 h.1))
   where
-    go : (b : Bool) → fails_of t x ≡ b → cond b (Blocked x) (first_in t xs) ≡ Allowed
-        → (first_in t xs ≡ Allowed → Each (λ y. fails_of t y ≡ false) xs) → Each (λ y. fails_of t y ≡ false) (x ∷ xs)
-    go true f e rest = let z : ◌≡◌ {A = ℕ} 0 1 = cc in absurd (omega arith)
+    go : (b : Bool) → fails_of t x ≡ b → cond b (Some x) (find (fails_of t) xs) ≡ None
+        → (find (fails_of t) xs ≡ None → Each (λ y. fails_of t y ≡ false) xs) → Each (λ y. fails_of t y ≡ false) (x ∷ xs)
+    go true f e rest = cc
     go false f e rest = (f, rest e)
 
 -- arming is allowed exactly where no check fails
-pub allowed_iff : (t : CheckTable) → (first_blocker_of t ≡ Allowed) ↔ ((id : CheckId) → fails_of t id ≡ false)
+pub allowed_iff : (t : CheckTable) → (first_blocker_of t ≡ None) ↔ ((id : CheckId) → fails_of t id ≡ false)
 unfolding first_blocker_of
 allowed_iff t = (
   λ e. each_check (λ x. fails_of t x ≡ false) ((none_fails t all_checks).0 e),
   λ h. (none_fails t all_checks).1 (each_of (λ x. fails_of t x ≡ false) h all_checks),
 )
 
--- a verdict's number is at most 21
-pub blocker_le : (v : TableVerdict) → blocker_number v ≤ no_blocker
-blocker_le Allowed = le_refl no_blocker
-blocker_le (Blocked id) = le_of_lt (number_lt id)
+-- a blocker's number is at most 21
+pub blocker_le : (v : Option CheckId) → blocker_number v ≤ no_blocker
+blocker_le None = le_refl no_blocker
+blocker_le (Some id) = le_of_lt (number_lt id)
 
 -- it is 21 exactly where arming is allowed
-pub no_blocker_lem : (v : TableVerdict) → (blocker_number v ≡ no_blocker) ↔ (v ≡ Allowed)
-no_blocker_lem Allowed = (λ e. refl, λ e. refl)
-no_blocker_lem (Blocked id) = (λ e. absurd (omega (arith, number_lt id)), λ e. let z : ◌≡◌ {A = ℕ} 0 1 = cc in absurd (omega arith))
+pub no_blocker_lem : (v : Option CheckId) → (blocker_number v ≡ no_blocker) ↔ (v ≡ None)
+no_blocker_lem None = (λ e. refl, λ e. refl)
+no_blocker_lem (Some id) = (λ e. absurd (omega (arith, number_lt id)), λ e. cc)
 
 -- ---- the count of outstanding checks
 
 -- a check fails exactly where its bit of the failing mask is set
 pub fails_bit : (t : CheckTable) → t.passed < 2 ^ 32 → (id : CheckId) → fails_of t id ≡ bit_of (failing_mask_of t) (check_number id)
 unfolding fails_of failing_mask_of
-fails_bit t h id = simp (bit_and_lem, bit_not 32 t.passed (check_number id) h (number_in 32 (lit≤ tt) id))
+fails_bit t h id = simp (bit_and_lem, bit_not t.passed (check_number id) h (number_in 32 (lit≤ tt) id))
 
 -- where no bit of the failing mask is set arming is allowed
-pub mask_allows : (t : CheckTable) → t.passed < 2 ^ 32 → failing_mask_of t ≡ 0 → first_blocker_of t ≡ Allowed
+pub mask_allows : (t : CheckTable) → t.passed < 2 ^ 32 → failing_mask_of t ≡ 0 → first_blocker_of t ≡ None
 mask_allows t h e = (allowed_iff t).1 (λ id. fails_bit t h id ∙ ap (λ (m : ℕ). bit_of m (check_number id)) e ∙ bit_zero (check_number id))
 
 abbrev sum_below : (ℕ → ℕ) → ℕ → ℕ
@@ -176,9 +172,7 @@ sum_below g zero = 0
 sum_below g (suc d) = g 0 + sum_below (λ k. g (suc k)) d
 
 digit : (x : ℕ) → x < 2 → cond (eqb x 1) 1 0 ≡ x
-digit zero h = refl
-digit (suc zero) h = refl
-digit (suc (suc x)) h = absurd (omega arith)
+digit x h = grind (arith, nat_tests)
 
 ones_bits : (d m : ℕ) → m < 2 ^ d → ones m ≡ sum_below (λ k. cond (bit_of m k) 1 0) d
 unfolding ones
@@ -188,33 +182,39 @@ ones_bits (suc d) m h =
     ones_step m ∙ simp (bit_low, bit_half, ones_bits d (m / 2) (omega arith), digit (m % 2) (mod-lt m (lit< tt)))
 
 -- the numbers in the order of `all_checks` are 0..20 in another order
-in_order : (f : ℕ → Bool) → sum_below (λ k. cond (f k) 1 0) check_count ≡ count_of (λ id. f (check_number id)) all_checks
+in_order : (f : ℕ → Bool) → sum_below (λ k. cond (f k) 1 0) check_count ≡ count_by (λ id. f (check_number id)) all_checks
 unfolding all_checks
 in_order f = omega arith
 
-count_same : (f g : CheckId → Bool) → ((id : CheckId) → f id ≡ g id) → (l : List CheckId) → count_of f l ≡ count_of g l
+count_more : (f : CheckId → Bool) (x : CheckId) (xs : List CheckId) → count_by f (x ∷ xs) ≡ cond (f x) 1 0 + count_by f xs
+count_more f x xs = sum_by-cons (λ y. cond (f y) 1 0) x xs
+
+count_same : (f g : CheckId → Bool) → ((id : CheckId) → f id ≡ g id) → (l : List CheckId) → count_by f l ≡ count_by g l
 count_same f g e [] = refl
-count_same f g e (x ∷ xs) = simp (e x, count_same f g e xs)
+count_same f g e (x ∷ xs) = count_more f x xs ∙ ap₂ (λ (b : Bool) (n : ℕ). cond b 1 0 + n) (e x) (count_same f g e xs) ∙ sym (count_more g x xs)
 
 -- the ones of required and not passed are as many as the checks that fail
-pub outstanding_count : (t : CheckTable) → t.required < mask_limit → t.passed < 2 ^ 32 → outstanding_of t ≡ count_of (fails_of t) all_checks
+pub outstanding_count : (t : CheckTable) → t.required < mask_limit → t.passed < 2 ^ 32 → outstanding_of t ≡ count_by (fails_of t) all_checks
 unfolding outstanding_of failing_mask_of
 outstanding_count t h l =
     ones_bits check_count (failing_mask_of t) (lt_of_le_of_lt (and_le_l t.required _) h)
     ∙ in_order (bit_of (failing_mask_of t))
     ∙ sym (count_same (fails_of t) (λ id. bit_of (failing_mask_of t) (check_number id)) (fails_bit t l) all_checks)
 
-count_zero : (f : CheckId → Bool) (l : List CheckId) → (count_of f l ≡ 0) ↔ Each (λ x. f x ≡ false) l
+count_zero : (f : CheckId → Bool) (l : List CheckId) → (count_by f l ≡ 0) ↔ Each (λ x. f x ≡ false) l
 count_zero f [] = (λ e. tt, λ h. refl)
-count_zero f (x ∷ xs) = (λ e. go (f x) refl e (count_zero f xs).0, λ h. simp (h.0, (count_zero f xs).1 h.1))
+count_zero f (x ∷ xs) = (
+  λ e. go (f x) refl (sym (count_more f x xs) ∙ e) (count_zero f xs).0,
+  λ h. count_more f x xs ∙ simp (h.0, (count_zero f xs).1 h.1),
+)
   where
-    go : (b : Bool) → f x ≡ b → cond b 1 0 + count_of f xs ≡ 0 → (count_of f xs ≡ 0 → Each (λ y. f y ≡ false) xs)
+    go : (b : Bool) → f x ≡ b → cond b 1 0 + count_by f xs ≡ 0 → (count_by f xs ≡ 0 → Each (λ y. f y ≡ false) xs)
         → Each (λ y. f y ≡ false) (x ∷ xs)
     go true e h rest = absurd (omega arith)
     go false e h rest = (e, rest (omega arith))
 
 -- no check is outstanding exactly where arming is allowed
-pub outstanding_zero : (t : CheckTable) → t.required < mask_limit → t.passed < 2 ^ 32 → (outstanding_of t ≡ 0) ↔ (first_blocker_of t ≡ Allowed)
+pub outstanding_zero : (t : CheckTable) → t.required < mask_limit → t.passed < 2 ^ 32 → (outstanding_of t ≡ 0) ↔ (first_blocker_of t ≡ None)
 unfolding first_blocker_of
 outstanding_zero t h l = (
   λ e. (none_fails t all_checks).1 ((count_zero (fails_of t) all_checks).0 (sym (outstanding_count t h l) ∙ e)),

@@ -1,4 +1,3 @@
 pub mod Bits
 pub mod Checks
 pub mod Laws
-pub mod Walk

@@ -1,14 +1,17 @@
 // The pre-arm check table: which checks the vehicle requires, which have passed, and the first that blocks arming.
 #![tactic(auto)]
 
-ghost use Rattle.std.specs.Prelude.{◌≡◌};
-ghost use Rattle.relay_preflight.specs.Check.{check_number};
+ghost use Rattle.std.specs.Prelude.{◌≡◌, ok_or};
+ghost use Rattle.relay_preflight.specs.Check.{check_number, check_at};
 ghost use Rattle.relay_preflight.specs.Table.{bit_of, with_bit_of, new_of, set_of, legacy_passed_of, is_required_of, passed_of};
-ghost use Rattle.relay_preflight.specs.Table.{failing_mask_of, outstanding_of};
+ghost use Rattle.relay_preflight.specs.Table.{fails_of, failing_mask_of, outstanding_of};
 ghost use Rattle.relay_preflight.specs.Verdict.{first_blocker_of, blocker_number};
 
+use std::error::Error;
+use std::fmt;
+
 // The individual pre-arm checks.
-#[derive(Clone, Copy)]
+#[derive(Clone, Copy, Debug, PartialEq, Eq, Hash)]
 pub enum CheckId {
     SensorsHealthy,
     EstimatorConverged,
@@ -36,7 +39,7 @@ pub enum CheckId {
 // How many checks there are.
 pub const CHECK_COUNT: u32 = 21;
 
-// The blocker's number where no check blocks.
+// The blocker's number where no check blocks: the sheet's last field and the C interface have it.
 pub const NO_BLOCKER: u32 = 21;
 
 impl CheckId {
@@ -65,11 +68,20 @@ impl CheckId {
         CheckId::NoFailsafeLatched,
     ];
 
-    // The check's number: its bit in a mask.
-    pub fn number(self) -> u32
-        ensures { result ≡ check_number self }
+    // The number of the check that blocks arming; NO_BLOCKER where none does.
+    pub fn blocker_number(blocker: Option<CheckId>) -> u32
+        ensures { result ≡ blocker_number blocker }
     {
-        match self {
+        blocker.map_or(NO_BLOCKER, u32::from)
+    }
+}
+
+// The check's number: its bit in a mask.
+impl From<CheckId> for u32 {
+    ghost from_gives = { λ id n. n ≡ check_number id };
+
+    fn from(id: CheckId) -> u32 {
+        match id {
             CheckId::SensorsHealthy => 0,
             CheckId::EstimatorConverged => 1,
             CheckId::CalibrationPresent => 2,
@@ -95,18 +107,67 @@ impl CheckId {
     }
 }
 
+// A number that no check has. An error of its own, whose Display says of what.
+#[derive(Clone, Copy, Debug, PartialEq, Eq, Hash)]
+pub struct UnknownCheck(pub u32);
+
+impl fmt::Display for UnknownCheck {
+    fn fmt<W: fmt::Write>(&self, f: &mut fmt::Formatter<W>) -> fmt::Result {
+        write!(f, "no check has number {}", self.0)
+    }
+}
+
+impl Error for UnknownCheck {}
+
+// The check with this number.
+#[tactic(auto, unfolding(crate::specs::Check::check_at, crate::specs::Check::check_at_of))]
+impl TryFrom<u32> for CheckId {
+    type Error = UnknownCheck;
+
+    ghost try_from_gives = { λ n r. r ≡ ok_or (check_at n) (record { 0 = n }) };
+
+    fn try_from(n: u32) -> Result<CheckId, UnknownCheck> {
+        match n {
+            0 => Ok(CheckId::SensorsHealthy),
+            1 => Ok(CheckId::EstimatorConverged),
+            2 => Ok(CheckId::CalibrationPresent),
+            3 => Ok(CheckId::GeofenceLoaded),
+            4 => Ok(CheckId::BatteryOk),
+            5 => Ok(CheckId::FailsafeConfigured),
+            6 => Ok(CheckId::EstimatorInnovation),
+            7 => Ok(CheckId::GnssAgreement),
+            8 => Ok(CheckId::ParamsFromNvm),
+            9 => Ok(CheckId::GeofenceSane),
+            10 => Ok(CheckId::ThresholdsOrdered),
+            11 => Ok(CheckId::SensorsFresh),
+            12 => Ok(CheckId::EscTelemetry),
+            13 => Ok(CheckId::BatteryTakeoffMargin),
+            14 => Ok(CheckId::RangefinderPlausible),
+            15 => Ok(CheckId::CalibrationFresh),
+            16 => Ok(CheckId::RcLink),
+            17 => Ok(CheckId::GcsLink),
+            18 => Ok(CheckId::NoFailsafeLatched),
+            19 => Ok(CheckId::MotorsHealthy),
+            20 => Ok(CheckId::InsideGeofence),
+            _ => Err(UnknownCheck(n)),
+        }
+    }
+}
+
 // Whether the check's bit of a mask is set.
+#[tactic(auto, unfolding(crate::specs::Table::bit_of))]
 fn bit(mask: u32, id: CheckId) -> bool
     ensures { result ≡ bit_of mask (check_number id) }
 {
-    (mask >> id.number()) & 1 == 1
+    (mask >> u32::from(id)) & 1 == 1
 }
 
 // A mask with the check's bit set or cleared.
+#[tactic(auto, unfolding(crate::specs::Table::with_bit_of))]
 fn with_bit(mask: u32, id: CheckId, on: bool) -> u32
     ensures { result ≡ with_bit_of mask (check_number id) on }
 {
-    let one = 1 << id.number();
+    let one = 1 << u32::from(id);
     if on {
         return mask | one;
     }
@@ -114,7 +175,7 @@ fn with_bit(mask: u32, id: CheckId, on: bool) -> u32
 }
 
 // The check table: bit n of each mask is the check of number n.
-#[derive(Clone, Copy)]
+#[derive(Clone, Copy, Debug, PartialEq, Eq, Hash)]
 pub struct CheckTable {
     pub required: u32,
     pub passed: u32,
@@ -132,25 +193,27 @@ impl CheckTable {
     }
 
     // Sets whether a check has passed; what is required stays.
+    #[tactic(auto, unfolding(crate::specs::Table::set_of))]
     pub fn set(self, id: CheckId, pass: bool) -> CheckTable
         ensures { result ≡ set_of self id pass }
     {
         CheckTable {
-            required: self.required,
             passed: with_bit(self.passed, id, pass),
+            ..self
         }
     }
 
     // The six checks that an opening sets passed.
+    #[tactic(auto, unfolding(crate::specs::Table::legacy_passed_of))]
     pub fn legacy_passed(self) -> CheckTable
         ensures { result ≡ legacy_passed_of self }
     {
-        let mut t = self.set(CheckId::SensorsHealthy, true);
-        t = t.set(CheckId::EstimatorConverged, true);
-        t = t.set(CheckId::CalibrationPresent, true);
-        t = t.set(CheckId::GeofenceLoaded, true);
-        t = t.set(CheckId::BatteryOk, true);
-        t.set(CheckId::FailsafeConfigured, true)
+        self.set(CheckId::SensorsHealthy, true)
+            .set(CheckId::EstimatorConverged, true)
+            .set(CheckId::CalibrationPresent, true)
+            .set(CheckId::GeofenceLoaded, true)
+            .set(CheckId::BatteryOk, true)
+            .set(CheckId::FailsafeConfigured, true)
     }
 
     // Whether a check is required.
@@ -167,7 +230,16 @@ impl CheckTable {
         bit(self.passed, id)
     }
 
+    // Whether a check is required and has not passed.
+    #[tactic(auto, unfolding(crate::specs::Table::fails_of))]
+    fn fails(self, id: CheckId) -> bool
+        ensures { result ≡ fails_of self id }
+    {
+        self.is_required(id) && !self.passed(id)
+    }
+
     // The required checks that have not passed.
+    #[tactic(auto, unfolding(crate::specs::Table::failing_mask_of))]
     pub fn failing_mask(self) -> u32
         ensures { result ≡ failing_mask_of self }
     {
@@ -175,54 +247,21 @@ impl CheckTable {
     }
 
     // How many required checks have not passed.
+    #[tactic(auto, unfolding(crate::specs::Table::outstanding_of))]
     pub fn outstanding(self) -> u32
         ensures { result ≡ outstanding_of self }
     {
-        u32::count_ones(self.failing_mask())
+        self.failing_mask().count_ones()
     }
 }
 
-// What the table says of arming.
-#[derive(Clone, Copy)]
-pub enum TableVerdict {
-    Allowed,
-    // The first failing required check, in the order of CheckId::ALL.
-    Blocked(CheckId),
-}
-
-impl TableVerdict {
-    // The blocker's number.
-    pub fn number(self) -> u32
-        ensures { result ≡ blocker_number self }
-    {
-        match self {
-            TableVerdict::Allowed => NO_BLOCKER,
-            TableVerdict::Blocked(id) => id.number(),
-        }
-    }
-}
-
-// The checks in their order, up to the first required one that has not passed.
-fn first_failing(t: CheckTable) -> TableVerdict
-    ensures { result ≡ first_blocker_of t }
-{
-    let mut i = 0;
-    while i < CHECK_COUNT as usize {
-        let id = CheckId::ALL[i];
-        if t.is_required(id) & !t.passed(id) {
-            return TableVerdict::Blocked(id);
-        }
-        i += 1;
-    }
-    TableVerdict::Allowed
-}
-
-// Arming is blocked by the first required check that has not passed. Where none is outstanding there is no check to look for.
-pub fn arm_check_table(t: CheckTable) -> TableVerdict
+// The first required check that has not passed, in the order of CheckId::ALL: it blocks arming. Where none is outstanding there is no check to look for.
+#[tactic(auto, using(crate::proofs::Laws::mask_allows), unfolding(crate::specs::Verdict::first_blocker_of, crate::specs::Check::all_checks))]
+pub fn arm_check_table(t: CheckTable) -> Option<CheckId>
     ensures { result ≡ first_blocker_of t }
 {
     if t.failing_mask() == 0 {
-        return TableVerdict::Allowed;
+        return None;
     }
-    first_failing(t)
+    CheckId::ALL.iter().copied().find(|&id| t.fails(id))
 }

@@ -1,28 +1,27 @@
 -- The state, the refusal and the buffer by the buffer's length. Assumes nothing.
-use Prim.Native.Nat.{ℕ, zero, suc, ◌+◌, ◌*◌, ◌≤◌, ◌<◌}
+use Prim.Native.Nat.{ℕ, ◌+◌, ◌*◌, ◌≤◌, ◌<◌}
 use native.Mathlib.Omega.{arith}
 use mathlib.Core.Path.{◌≡◌, refl, sym, ap, ◌∙◌, subst}
-use mathlib.Core.Bool.{Bool, true, false, cond}
 use mathlib.Core.List.{List, [], ◌++◌, append-nil}
-use borrow.Author.Tests.{lt-ltb, le-ltb, ne_eqb}
-use lib.Dec.{eqb, ltb}
+use borrow.Author.Tests.{lt-ltb, le-ltb}
+use lib.Dec.{eqb}
 use lib.ListN.{length, drop, length-append}
+use Rattle.std.specs.Prelude.{Option, Some, None, Result, Ok, Err}
 use Rattle.falcon_core.specs.declared.supervisor.Supervisor.{Supervisor}
 use Rattle.falcon_core.specs.declared.calls.Answered.{Answered}
 use Rattle.falcon_core.specs.declared.calls.Output.{Output}
 use Rattle.falcon_core.specs.Calls.{Request, plans, totals, saves, answer_fields, refusal_of, legs_in, output_of, after_of, answer_of, refused_of, accepted_of, numbers_of}
-use Rattle.falcon_core.specs.Refusals.{short_buffer_of, not_a_line}
+use Rattle.falcon_core.specs.declared.refusal.Refusal.{Refusal}
+use Rattle.falcon_core.specs.declared.refusal.Refusal.TheVariants.{ShortBuffer, NotALine}
 use Rattle.falcon_core.proofs.Answers.{step_refused, step_accepted}
 use Rattle.falcon_core.proofs.Parts.{cond_keeps}
 use Rattle.falcon_totals.specs.Totals.{totals_count, totals_numbers}
 use Rattle.falcon_record.specs.Saved.{record_fields}
 use Rattle.falcon_record.proofs.Saving.{columns_count, record_fits}
-use Rattle.columns.specs.declared.field.FieldRead.{FieldRead}
-use Rattle.columns.specs.declared.field.FieldRead.TheVariants.{Number, Bad}
-use Rattle.columns.specs.Field.{field_width, number_limit, in_range, kind_of}
+use Rattle.columns.specs.Field.{field_width, kind_of}
 use Rattle.columns.proofs.Writing.{length_line}
-use Rattle.columns.specs.Line.{Reading, read, broken, line_of, written_over, number_at}
-use Rattle.requests.specs.Kinds.{Asked, refuses, asks, answered_by, totals_kind, saves_kind, request_of}
+use Rattle.columns.specs.Line.{line_of, written_over, number_at}
+use Rattle.requests.specs.Kinds.{Asked, answered_by, totals_kind, saves_kind, request_of}
 use Rattle.requests.specs.Parse.{asked_by, reading_line, asked_line}
 use Rattle.falcon_core.proofs.Numbers.{numbers_count}
 use Rattle.requests.proofs.Asking.{reading_kind}
@@ -31,43 +30,24 @@ use Rattle.requests.specs.ByLine.{answer_width, totals_answer, record_need, need
 
 -- ---- what a line needs
 
--- "a buffer under 209 bytes for kind 7"
-pub need_totals : (v : ℕ) → v ≡ totals_kind → totals_answer ≡ need_fields_of (in_range v)
-unfolding need_fields_of in_range
-need_totals v e = rw e
-
-need_seven : (v : ℕ) → v ≡ totals_kind → totals_answer ≡ need_fields_of (Number v)
+need_seven : (v : ℕ) → v ≡ totals_kind → totals_answer ≡ need_fields_of (Some v)
 unfolding need_fields_of
 need_seven v e = rw e
 
--- "a buffer under 1,870 bytes for kind 8"
-pub need_record : (v : ℕ) → v ≡ saves_kind → record_need ≡ need_fields_of (in_range v)
-unfolding need_fields_of in_range
-need_record v e = rw e
-
-need_eight : (v : ℕ) → v ≡ saves_kind → record_need ≡ need_fields_of (Number v)
+need_eight : (v : ℕ) → v ≡ saves_kind → record_need ≡ need_fields_of (Some v)
 unfolding need_fields_of
 need_eight v e = rw e
 
--- and under 110 for any other
-pub need_other : (v : ℕ) → (v ≡ totals_kind → ⊥) → (v ≡ saves_kind → ⊥) → answer_fields ≡ need_fields_of (in_range v)
-unfolding need_fields_of in_range
-need_other v h k = go (ltb v number_limit) refl
-  where
-    go : (b : Bool) → ltb v number_limit ≡ b → answer_fields ≡ need_fields_of (cond (ltb v number_limit) (Number v) Bad)
-    go true e = rw (e, ne_eqb v totals_kind h, ne_eqb v saves_kind k)
-    go false e = rw e
-
 -- what holds of the three needs holds of every line's
-need_keeps : (P : ℕ → Type 0) (k : FieldRead) → P totals_answer → P record_need → P answer_fields → P (need_fields_of k)
+need_keeps : (P : ℕ → Type 0) (k : Option ℕ) → P totals_answer → P record_need → P answer_fields → P (need_fields_of k)
 unfolding need_fields_of
-need_keeps P (Number n) t r a = cond_keeps P (eqb n totals_kind) _ _ t (cond_keeps P (eqb n saves_kind) _ _ r a)
-need_keeps P Bad t r a = a
+need_keeps P (Some n) t r a = cond_keeps P (eqb n totals_kind) _ _ t (cond_keeps P (eqb n saves_kind) _ _ r a)
+need_keeps P None t r a = a
 
-need_least : (k : FieldRead) → answer_fields ≤ need_fields_of k
+need_least : (k : Option ℕ) → answer_fields ≤ need_fields_of k
 need_least k = need_keeps (λ (m : ℕ). answer_fields ≤ m) k (omega arith) (omega arith) (omega arith)
 
-pub need_most : (k : FieldRead) → need_fields_of k ≤ most_needed
+pub need_most : (k : Option ℕ) → need_fields_of k ≤ most_needed
 need_most k = need_keeps (λ (m : ℕ). m ≤ most_needed) k (omega arith) (omega arith) (omega arith)
 
 -- every line needs room for ten fields
@@ -80,60 +60,55 @@ pub needs_most : (line : List ℕ) → need_of line ≤ field_width * most_neede
 unfolding need_of
 needs_most line = omega (arith, need_most (kind_of line))
 
--- by its kind
-pub needs_kinded : (line : List ℕ) (n v : ℕ) → n ≡ need_fields_of (in_range v) → in_range v ≡ kind_of line → field_width * n ≡ need_of line
-unfolding need_of
-needs_kinded line n v e k = ap (λ (m : ℕ). field_width * m) (e ∙ ap need_fields_of k)
-
 -- ---- what an answer takes
 
 -- the numbers behind the ten of an answer
 abbrev extra_by : Supervisor → Asked → List ℕ
-extra_by s k = extra_of (answered_by s k).supervisor (answered_by s k).answer.output
+extra_by s k = extra_of (answered_by s k).supervisor (answered_by s k).answer.outcome
 
 -- a refused call has none
 step_extra :
-    (s : Supervisor) (r : Request) (x n : ℕ) →
-    refusal_of s r ≡ n →
-    length (extra_of (after_of s r) (output_of s.flight (legs_in s) r)) ≡ x →
-    length (extra_by s (asks r)) ≤ x
+    (s : Supervisor) (r : Request) (x : ℕ) (o : Option Refusal) →
+    refusal_of s r ≡ o →
+    length (extra_of (after_of s r) (Ok (output_of s.flight (legs_in s) r))) ≡ x →
+    length (extra_by s (Ok r)) ≤ x
 unfolding refused_of accepted_of answer_of extra_of
-step_extra s r x zero e h = rw (step_accepted s r e) (omega (arith, h))
-step_extra s r x (suc n) e h = rw (step_refused s r n e) (omega arith)
+step_extra s r x None e h = rw (step_accepted s r e) (omega (arith, h))
+step_extra s r x (Some n) e h = rw (step_refused s r n e) (omega arith)
 
 -- an answer's numbers are no more than its kind needs
 abbrev Fits : ℕ → Asked → Type 0
 Fits need k = (s : Supervisor) → answer_fields + length (extra_by s k) ≤ need
 
-ten_fit : (need : ℕ) (r : Request) → answer_fields ≤ need → ((s : Supervisor) → length (extra_of (after_of s r) (output_of s.flight (legs_in s) r)) ≡ 0) → Fits need (asks r)
+ten_fit : (need : ℕ) (r : Request) → answer_fields ≤ need → ((s : Supervisor) → length (extra_of (after_of s r) (Ok (output_of s.flight (legs_in s) r))) ≡ 0) → Fits need (Ok r)
 ten_fit need r h e s = omega (arith, h, step_extra s r 0 (refusal_of s r) refl (e s))
 
-refused_fit : (need n : ℕ) → answer_fields ≤ need → Fits need (refuses n)
+refused_fit : (need : ℕ) (e : Refusal) → answer_fields ≤ need → Fits need (Err e)
 unfolding refused_of answer_of extra_of
-refused_fit need n h s = h
+refused_fit need e h s = h
 
-numbers_fit : (ns : List ℕ) → Fits (need_fields_of (Number (number_at ns 0))) (request_of ns)
+numbers_fit : (ns : List ℕ) → Fits (need_fields_of (Some (number_at ns 0))) (request_of ns)
 unfolding output_of extra_of totals_numbers
 numbers_fit ns =
-    let need = need_fields_of (Number (number_at ns 0)) in
-    let least = need_least (Number (number_at ns 0)) in
-    request_keeps (Fits need) (λ n. refused_fit need n least) ns (ten_fit need _ least (λ s. refl)) (ten_fit need _ least (λ s. refl)) (ten_fit need _ least (λ s. refl))
+    let need = need_fields_of (Some (number_at ns 0)) in
+    let least = need_least (Some (number_at ns 0)) in
+    request_keeps (Fits need) (λ e. refused_fit need e least) ns (ten_fit need _ least (λ s. refl)) (ten_fit need _ least (λ s. refl)) (ten_fit need _ least (λ s. refl))
     (λ ev. ten_fit need _ least (λ s. refl))
     (ten_fit need _ least (λ s. refl))
     (ten_fit need _ least (λ s. refl))
     (λ e s. omega (arith, need_seven (number_at ns 0) e, step_extra s (plans totals) totals_count (refusal_of s (plans totals)) refl refl))
     (λ e s. omega (arith, need_eight (number_at ns 0) e, step_extra s (plans saves) record_fields (refusal_of s (plans saves)) refl (columns_count (after_of s (plans saves))), record_fits))
 
-line_fit : (line : List ℕ) (k : Reading) → reading_line line ≡ k → Fits (need_fields_of (kind_of line)) (asked_by k)
-line_fit line (read ns) e = subst (λ (f : FieldRead). Fits (need_fields_of f) (request_of ns)) (sym (reading_kind line ns e)) (numbers_fit ns)
-line_fit line broken e = refused_fit (need_fields_of (kind_of line)) not_a_line (need_least (kind_of line))
+line_fit : (line : List ℕ) (k : Option (List ℕ)) → reading_line line ≡ k → Fits (need_fields_of (kind_of line)) (asked_by k)
+line_fit line (Some ns) e = subst (λ (f : Option ℕ). Fits (need_fields_of f) (request_of ns)) (sym (reading_kind line ns e)) (numbers_fit ns)
+line_fit line None e = refused_fit (need_fields_of (kind_of line)) NotALine (need_least (kind_of line))
 
 -- a reply is no longer than what its line needs
 pub reply_fits : (s : Supervisor) (line : List ℕ) → length (reply_of (answered_by s (asked_line line))) ≤ need_of line
 unfolding reply_of reply_numbers need_of asked_line
 reply_fits s line =
     let a : Answered = answered_by s (asked_line line) in
-    let extra : List ℕ = extra_of a.supervisor a.answer.output in
+    let extra : List ℕ = extra_of a.supervisor a.answer.outcome in
     omega (
       arith,
       length_line (numbers_of a.answer ++ extra),
@@ -143,12 +118,12 @@ reply_fits s line =
     )
 
 -- an answer has the numbers of what it tells behind its ten
-pub reply_extra : (a : Answered) (o : Output) → a.answer.output ≡ o → reply_numbers a ≡ numbers_of a.answer ++ extra_of a.supervisor o
+pub reply_extra : (a : Answered) (o : Result Output Refusal) → a.answer.outcome ≡ o → reply_numbers a ≡ numbers_of a.answer ++ extra_of a.supervisor o
 unfolding reply_numbers
-reply_extra a o e = ap (λ (x : Output). numbers_of a.answer ++ extra_of a.supervisor x) e
+reply_extra a o e = ap (λ (x : Result Output Refusal). numbers_of a.answer ++ extra_of a.supervisor x) e
 
 -- and none where it tells nothing
-pub reply_ten : (a : Answered) → extra_of a.supervisor a.answer.output ≡ [] → numbers_of a.answer ≡ reply_numbers a
+pub reply_ten : (a : Answered) → extra_of a.supervisor a.answer.outcome ≡ [] → numbers_of a.answer ≡ reply_numbers a
 unfolding reply_numbers
 reply_ten a h = sym (ap (λ (l : List ℕ). numbers_of a.answer ++ l) h ∙ append-nil (numbers_of a.answer))
 
@@ -163,7 +138,7 @@ written_fits ns out h =
 
 -- under what the line needs
 module _ (s : Supervisor) (line out : List ℕ) (h : length out < need_of line) where
-  pub short_step : line_step s line out ≡ refused_of s short_buffer_of
+  pub short_step : line_step s line out ≡ refused_of s ShortBuffer
   unfolding line_step asked_with
   short_step = simp (lt-ltb (length out) (need_of line) h)
 

@@ -6,20 +6,21 @@ use lib.ListN.{length, get_or, drop}
 use lib.Ieee.{nan, binary32, of_bits}
 use lib.Ieee.Bits.{of_bits-fits}
 use lib.Ieee.Fits.{nan-fits}
+use Rattle.std.specs.Prelude.{Option, Some, None, Ok, Err}
 use Rattle.relay_batt.specs.Fits.{Fit, FitReading}
 use Rattle.falcon_core.specs.SoundState.{FitPoint, FitOpening, FitTick, Lent}
 use Rattle.falcon_core.proofs.Parts.{cond_keeps}
-use Rattle.columns.specs.Line.{Reading, read, broken, number_at}
+use Rattle.columns.specs.Line.{number_at}
 use Rattle.falcon_record.specs.From.{point_from_of}
-use Rattle.requests.specs.Kinds.{Asked, refuses, asks, list_head, opening_from_of, reading_from_of, tick_from_of, request_of}
+use Rattle.requests.specs.Kinds.{Asked, list_head, opening_from_of, reading_from_of, tick_from_of, request_of}
 use Rattle.requests.specs.Parse.{asked_by, reading_line, asked_line}
 use Rattle.requests.specs.ByLine.{need_of, asked_with}
 use Rattle.requests.proofs.ByKind.{request_keeps}
 
 -- the floats of what is asked are f32 values
 abbrev pub LentAsked : Asked → Type 0
-LentAsked (refuses n) = Unit {0}
-LentAsked (asks r) = Lent r
+LentAsked (Err e) = Unit {0}
+LentAsked (Ok r) = Lent r
 
 bits_fit : (n : ℕ) → Fit (of_bits binary32 n)
 bits_fit n = of_bits-fits binary32 n
@@ -48,11 +49,11 @@ floats_lent (n ∷ ns) (suc i) = floats_lent ns i
 request_lent : (ns : List ℕ) → LentAsked (request_of ns)
 request_lent ns =
     let floats = floats_lent (drop list_head ns) in
-    request_keeps LentAsked (λ n. tt) ns (opening_lent ns) (tick_lent ns) tt (λ ev. tt) floats floats (λ e. tt) (λ e. tt)
+    request_keeps LentAsked (λ e. tt) ns (opening_lent ns) (tick_lent ns) tt (λ ev. tt) floats floats (λ e. tt) (λ e. tt)
 
-reading_asks : (r : Reading) → LentAsked (asked_by r)
-reading_asks (read ns) = request_lent ns
-reading_asks broken = tt
+reading_asks : (r : Option (List ℕ)) → LentAsked (asked_by r)
+reading_asks (Some ns) = request_lent ns
+reading_asks None = tt
 
 -- what a call by line asks
 pub line_lent : (line out : List ℕ) → LentAsked (asked_with line out)

@@ -1,18 +1,17 @@
 -- A call by line: the state, the refusal and the whole buffer after it.
-use Rattle.std.specs.Prelude.{ℕ, ◌+◌, ◌*◌, cond, List, [], ◌++◌, eqb, ltb, length, drop}
+use Rattle.std.specs.Prelude.{ℕ, ◌+◌, ◌*◌, cond, List, [], ◌++◌, eqb, ltb, length, drop, Option, Some, None, Result, Ok, Err}
 use Rattle.falcon_core.specs.declared.supervisor.Supervisor.{Supervisor}
 use Rattle.falcon_core.specs.declared.calls.Answered.{Answered}
 use Rattle.falcon_core.specs.declared.calls.Output.{Output}
 use Rattle.falcon_core.specs.declared.calls.Output.TheVariants.{Nothing, Ticks, Totals, Record}
 use Rattle.falcon_core.specs.Calls.{answer_fields, numbers_of}
-use Rattle.falcon_core.specs.Refusals.{short_buffer_of}
-use Rattle.columns.specs.declared.field.FieldRead.{FieldRead}
-use Rattle.columns.specs.declared.field.FieldRead.TheVariants.{Number, Bad}
+use Rattle.falcon_core.specs.declared.refusal.Refusal.{Refusal}
+use Rattle.falcon_core.specs.declared.refusal.Refusal.TheVariants.{ShortBuffer}
 use Rattle.columns.specs.Field.{field_width, kind_of}
 use Rattle.columns.specs.Line.{line_of}
 use Rattle.falcon_totals.specs.Totals.{totals_count, totals_numbers}
 use Rattle.falcon_record.specs.Saved.{record_room, columns_of}
-use Rattle.requests.specs.Kinds.{Asked, refuses, answered_by, totals_kind, saves_kind}
+use Rattle.requests.specs.Kinds.{Asked, answered_by, totals_kind, saves_kind}
 use Rattle.requests.specs.Parse.{asked_line}
 
 -- "110 bytes"
@@ -29,9 +28,9 @@ record_need = answer_fields + record_room
 
 -- how many fields an answer buffer must have room for, by the line's kind. U1: "a buffer under 209 bytes for kind 7"; U2: "a buffer under 1,870 bytes for
 -- kind 8"
-unfoldable pub need_fields_of : FieldRead → ℕ
-need_fields_of (Number n) = cond (eqb n totals_kind) totals_answer (cond (eqb n saves_kind) record_need answer_fields)
-need_fields_of Bad = answer_fields
+unfoldable pub need_fields_of : Option ℕ → ℕ
+need_fields_of (Some n) = cond (eqb n totals_kind) totals_answer (cond (eqb n saves_kind) record_need answer_fields)
+need_fields_of None = answer_fields
 
 -- the most fields that an answer buffer must have room for
 abbrev pub most_needed : ℕ
@@ -47,22 +46,23 @@ need_of line = field_width * need_fields_of (kind_of line)
 
 -- what a call by line asks, with its answer buffer: 9 comes first
 unfoldable pub asked_with : List ℕ → List ℕ → Asked
-asked_with line out = cond (ltb (length out) (need_of line)) (refuses short_buffer_of) (asked_line line)
+asked_with line out = cond (ltb (length out) (need_of line)) (Err ShortBuffer) (asked_line line)
 
 -- the answer to a call by line
 unfoldable pub line_step : Supervisor → List ℕ → List ℕ → Answered
 line_step s line out = answered_by s (asked_with line out)
 
--- the numbers of an answer behind its ten fields, with the state after it
-unfoldable pub extra_of : Supervisor → Output → List ℕ
-extra_of s Nothing = []
-extra_of s (Ticks t) = []
-extra_of s Totals = totals_numbers s.totals
-extra_of s Record = columns_of s
+-- the numbers of an answer behind its ten fields, with the state after it: a refusal has none
+unfoldable pub extra_of : Supervisor → Result Output Refusal → List ℕ
+extra_of s (Ok Nothing) = []
+extra_of s (Ok (Ticks t)) = []
+extra_of s (Ok Totals) = totals_numbers s.totals
+extra_of s (Ok Record) = columns_of s
+extra_of s (Err e) = []
 
 -- the numbers of an answer
 unfoldable pub reply_numbers : Answered → List ℕ
-reply_numbers a = numbers_of a.answer ++ extra_of a.supervisor a.answer.output
+reply_numbers a = numbers_of a.answer ++ extra_of a.supervisor a.answer.outcome
 
 -- and as bytes
 unfoldable pub reply_of : Answered → List ℕ

@@ -1,9 +1,8 @@
 -- The kinds of lines: what the numbers of a line ask, or the refusal 3, 4 or 5 that fits them whatever the state.
-use Rattle.std.specs.Prelude.{ℕ, ◌+◌, ◌*◌, ◌≤◌, ◌≡◌, Bool, cond, ◌&&◌, ◌||◌, List, map, eqb, leb, ltb, length, take, drop, Float}
+use Rattle.std.specs.Prelude.{ℕ, ◌+◌, ◌*◌, ◌≤◌, ◌≡◌, Bool, cond, ◌&&◌, ◌||◌, List, map, eqb, leb, ltb, length, take, drop, Float, Option, Some, None, Result, Ok, Err, IfOk}
 use Rattle.std.specs.Float.{binary32}
 use Rattle.std.specs.Float.Ieee.{of_bits}
-use Rattle.relay_fsm.specs.declared.FoundEvent.{FoundEvent}
-use Rattle.relay_fsm.specs.declared.FoundEvent.TheVariants.{Known, Unknown}
+use Rattle.relay_fsm.specs.declared.Event.{Event}
 use Rattle.relay_fsm.specs.Event.{event_at}
 use Rattle.relay_batt.specs.declared.battery.Reading.{Reading}
 use Rattle.relay_batt.specs.declared.battery.Reading.TheVariants.{Nothing, Volts, VoltsAmps}
@@ -11,27 +10,29 @@ use Rattle.falcon_failsafe.specs.declared.flight.Opening.{Opening}
 use Rattle.falcon_guidance.specs.declared.state.Tick.{Tick}
 use Rattle.falcon_core.specs.declared.supervisor.Supervisor.{Supervisor}
 use Rattle.falcon_core.specs.declared.calls.Answered.{Answered}
+use Rattle.falcon_core.specs.declared.refusal.Refusal.{Refusal}
+use Rattle.falcon_core.specs.declared.refusal.Refusal.TheVariants.{UnknownKind, WrongCount, OutOfRange}
 use Rattle.requests.specs.declared.kinds.Kind.{Kind}
-use Rattle.requests.specs.declared.kinds.Kind.TheVariants.{Flight, Other}
+use Rattle.requests.specs.declared.kinds.Kind.TheVariants.{Opening as OpeningKind, Tick as TickKind, Report as ReportKind, Command as CommandKind, Points as PointsKind, Zones as ZonesKind, Totals as TotalsKind, Saves as SavesKind}
+use Rattle.requests.specs.declared.kinds.Call.{Call}
+use Rattle.requests.specs.declared.kinds.Call.TheVariants.{Flight, Other}
 use Rattle.requests.specs.declared.kinds.FlightCall.{FlightCall}
 use Rattle.requests.specs.declared.kinds.FlightCall.TheVariants.{Ticks, Reports, Commands}
 use Rattle.requests.specs.declared.kinds.OtherCall.{OtherCall}
-use Rattle.requests.specs.declared.kinds.OtherCall.TheVariants.{Refused, Opens, Points, Zones, Totals, Saves}
+use Rattle.requests.specs.declared.kinds.OtherCall.TheVariants.{Opens, Points, Zones, Totals, Saves}
 use Rattle.falcon_guidance.specs.State.{point_numbers_of, zone_numbers_of}
-use Rattle.falcon_core.specs.Calls.{Request, opens, ticks, reports, commands, plans, points, zones, totals, saves, refused_of, step_of}
+use Rattle.falcon_core.specs.Calls.{Request, opens, ticks, reports, commands, plans, points, zones, totals, saves, refused_of, step_of, Planning}
 use Rattle.columns.specs.Line.{number_at, float_at, flag_at_of}
 use Rattle.falcon_record.specs.From.{point_from_of}
-use Rattle.falcon_core.specs.Refusals.{unknown_kind, wrong_count, out_of_range}
 
 -- what a line asks, or the refusal that fits it whatever the state
-pub data Asked : Type 0 where
-  refuses : ℕ → Asked
-  asks : Request → Asked
+abbrev pub Asked : Type 0
+Asked = Result Request Refusal
 
 -- the answer to what a line asks
 abbrev pub answered_by : Supervisor → Asked → Answered
-answered_by s (refuses n) = refused_of s n
-answered_by s (asks r) = step_of s r
+answered_by s (Err e) = refused_of s e
+answered_by s (Ok r) = step_of s r
 
 -- "flag above 1"
 abbrev pub is_flag_of : List ℕ → ℕ → Bool
@@ -39,7 +40,7 @@ is_flag_of ns k = leb (number_at ns k) 1
 
 -- a line of so many fields in range, or 4, or 5
 abbrev pub fielded : List ℕ → ℕ → Bool → Asked → Asked
-fielded ns count ranges asked = cond (eqb (length ns) count) (cond ranges asked (refuses out_of_range)) (refuses wrong_count)
+fielded ns count ranges asked = cond (eqb (length ns) count) (cond ranges asked (Err OutOfRange)) (Err WrongCount)
 
 -- "1 opening: home (three), fence, cruise, L, required, passed, calibration flag."
 abbrev pub opening_fields : ℕ
@@ -58,7 +59,7 @@ opening_from_of ns =
     }
 
 unfoldable pub opening_line_of : List ℕ → Asked
-opening_line_of ns = fielded ns opening_fields (is_flag_of ns 9) (asks (opens (opening_from_of ns)))
+opening_line_of ns = fielded ns opening_fields (is_flag_of ns 9) (Ok (opens (opening_from_of ns)))
 
 -- "2 tick: dt, p (three), v (three), tilt, uncertainty, motor; flags nav compromised, gnss diverged, failed, rpm;
 -- battery 0 none, 1 volts, 2 volts with amps; volts, amps (0 where absent)."
@@ -97,23 +98,23 @@ unfoldable pub tick_ok_of : List ℕ → Bool
 tick_ok_of ns = is_flag_of ns 11 && is_flag_of ns 12 && is_flag_of ns 13 && is_flag_of ns 14 && battery_ok_of ns
 
 unfoldable pub tick_line_of : List ℕ → Asked
-tick_line_of ns = fielded ns tick_fields (tick_ok_of ns) (asks (ticks (tick_from_of ns)))
+tick_line_of ns = fielded ns tick_fields (tick_ok_of ns) (Ok (ticks (tick_from_of ns)))
 
 -- "3 report: failed flag."
 abbrev pub report_fields : ℕ
 report_fields = 2
 
 unfoldable pub report_line_of : List ℕ → Asked
-report_line_of ns = fielded ns report_fields (is_flag_of ns 1) (asks (reports (flag_at_of ns 1)))
+report_line_of ns = fielded ns report_fields (is_flag_of ns 1) (Ok (reports (flag_at_of ns 1)))
 
 -- "4 command: event, level, low throttle."
 abbrev pub command_fields : ℕ
 command_fields = 4
 
 -- "event above 11"
-abbrev pub command_with : FoundEvent → Bool → Bool → Asked
-command_with (Known ev) level low = asks (commands ev level low)
-command_with Unknown level low = refuses out_of_range
+abbrev pub command_with : Option Event → Bool → Bool → Asked
+command_with (Some ev) level low = Ok (commands ev level low)
+command_with None level low = Err OutOfRange
 
 unfoldable pub command_line_of : List ℕ → Asked
 command_line_of ns =
@@ -135,13 +136,17 @@ is_list_of width ns = eqb (length ns) (list_fields width ns)
 abbrev pub list_floats_of : List ℕ → List Float
 list_floats_of ns = map (of_bits binary32) (drop list_head ns)
 
+-- a line of points or zones, or 4
+abbrev pub list_line_of : ℕ → (List Float → Planning) → List ℕ → Asked
+list_line_of width list ns = cond (is_list_of width ns) (Ok (plans (list (list_floats_of ns)))) (Err WrongCount)
+
 -- "5 points: n, then 3 each."
 unfoldable pub points_line_of : List ℕ → Asked
-points_line_of ns = cond (is_list_of point_numbers_of ns) (asks (plans (points (list_floats_of ns)))) (refuses wrong_count)
+points_line_of ns = list_line_of point_numbers_of points ns
 
 -- "6 zones: n, then 4 each."
 unfoldable pub zones_line_of : List ℕ → Asked
-zones_line_of ns = cond (is_list_of zone_numbers_of ns) (asks (plans (zones (list_floats_of ns)))) (refuses wrong_count)
+zones_line_of ns = list_line_of zone_numbers_of zones ns
 
 -- U1: "Line kind 7, with no further field"
 abbrev pub totals_kind : ℕ
@@ -156,19 +161,35 @@ abbrev pub alone_fields : ℕ
 alone_fields = 1
 
 unfoldable pub alone_line_of : List ℕ → Asked → Asked
-alone_line_of ns asked = cond (eqb (length ns) alone_fields) asked (refuses wrong_count)
+alone_line_of ns asked = cond (eqb (length ns) alone_fields) asked (Err WrongCount)
 
--- "The first field is the kind"
+-- "The first field is the kind": the kind with a number, none below 1 or above 8
+unfoldable pub kind_at : ℕ → Option Kind
+kind_at n =
+    cond (eqb n 1) (Some OpeningKind)
+    (cond (eqb n 2) (Some TickKind)
+    (cond (eqb n 3) (Some ReportKind)
+    (cond (eqb n 4) (Some CommandKind)
+    (cond (eqb n 5) (Some PointsKind)
+    (cond (eqb n 6) (Some ZonesKind)
+    (cond (eqb n totals_kind) (Some TotalsKind)
+    (cond (eqb n saves_kind) (Some SavesKind) None)))))))
+
+-- what the numbers of a line of this kind ask
+abbrev pub kind_line_of : Option Kind → List ℕ → Asked
+kind_line_of (Some OpeningKind) ns = opening_line_of ns
+kind_line_of (Some TickKind) ns = tick_line_of ns
+kind_line_of (Some ReportKind) ns = report_line_of ns
+kind_line_of (Some CommandKind) ns = command_line_of ns
+kind_line_of (Some PointsKind) ns = points_line_of ns
+kind_line_of (Some ZonesKind) ns = zones_line_of ns
+kind_line_of (Some TotalsKind) ns = alone_line_of ns (Ok (plans totals))
+kind_line_of (Some SavesKind) ns = alone_line_of ns (Ok (plans saves))
+kind_line_of None ns = Err UnknownKind
+
+-- what the numbers of a line ask
 unfoldable pub request_of : List ℕ → Asked
-request_of ns =
-    cond (eqb (number_at ns 0) 1) (opening_line_of ns)
-    (cond (eqb (number_at ns 0) 2) (tick_line_of ns)
-    (cond (eqb (number_at ns 0) 3) (report_line_of ns)
-    (cond (eqb (number_at ns 0) 4) (command_line_of ns)
-    (cond (eqb (number_at ns 0) 5) (points_line_of ns)
-    (cond (eqb (number_at ns 0) 6) (zones_line_of ns)
-    (cond (eqb (number_at ns 0) totals_kind) (alone_line_of ns (asks (plans totals)))
-    (cond (eqb (number_at ns 0) saves_kind) (alone_line_of ns (asks (plans saves))) (refuses unknown_kind))))))))
+request_of ns = kind_line_of (kind_at (number_at ns 0)) ns
 
 -- the numbers of a line of points or zones, which are the first of these
 abbrev pub list_line : ℕ → List ℕ → List ℕ
@@ -181,32 +202,35 @@ flight_asks (Reports failed) = reports failed
 flight_asks (Commands ev level low) = commands ev level low
 
 -- what any other line asks, its numbers being the first of these
-abbrev pub other_asks : List ℕ → OtherCall → Asked
-other_asks ns (Refused n) = refuses n
-other_asks ns (Opens o) = asks (opens o)
-other_asks ns Points = asks (plans (points (list_floats_of (list_line point_numbers_of ns))))
-other_asks ns Zones = asks (plans (zones (list_floats_of (list_line zone_numbers_of ns))))
-other_asks ns Totals = asks (plans totals)
-other_asks ns Saves = asks (plans saves)
+abbrev pub other_asks : List ℕ → OtherCall → Request
+other_asks ns (Opens o) = opens o
+other_asks ns Points = plans (points (list_floats_of (list_line point_numbers_of ns)))
+other_asks ns Zones = plans (zones (list_floats_of (list_line zone_numbers_of ns)))
+other_asks ns Totals = plans totals
+other_asks ns Saves = plans saves
 
--- what each case of `Kind` asks
-abbrev pub kind_asks : List ℕ → Kind → Asked
-kind_asks ns (Flight call) = asks (flight_asks call)
-kind_asks ns (Other call) = other_asks ns call
+-- what each case of `Call` asks
+abbrev pub call_asks : List ℕ → Call → Request
+call_asks ns (Flight call) = flight_asks call
+call_asks ns (Other call) = other_asks ns call
+
+-- what the answer of a function that reads a line asks
+abbrev pub said_of : List ℕ → Result Call Refusal → Asked
+said_of ns (Ok call) = Ok (call_asks ns call)
+said_of ns (Err e) = Err e
 
 -- the points or zones of a line are among these numbers
 abbrev pub Listed : OtherCall → List ℕ → Type 0
-Listed (Refused n) ns = Unit
 Listed (Opens o) ns = Unit
 Listed Points ns = list_fields point_numbers_of ns ≤ length ns
 Listed Zones ns = list_fields zone_numbers_of ns ≤ length ns
 Listed Totals ns = Unit
 Listed Saves ns = Unit
 
-abbrev pub KindListed : Kind → List ℕ → Type 0
-KindListed (Flight call) ns = Unit
-KindListed (Other call) ns = Listed call ns
+abbrev pub CallListed : Call → List ℕ → Type 0
+CallListed (Flight call) ns = Unit
+CallListed (Other call) ns = Listed call ns
 
--- a case of `Kind`, with the line's numbers, is what is asked
-abbrev pub Says : Kind → List ℕ → Asked → Type 0
-Says kind ns asked = (kind_asks ns kind ≡ asked) × KindListed kind ns
+-- a call or a refusal, with the line's numbers, is what is asked
+abbrev pub Says : Result Call Refusal → List ℕ → Asked → Type 0
+Says said ns asked = (said_of ns said ≡ asked) × IfOk said (λ call. CallListed call ns)

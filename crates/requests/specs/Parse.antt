@@ -1,28 +1,26 @@
 -- What a line asks, or the refusal that fits it whatever the state.
-use Rattle.std.specs.Prelude.{ℕ, List}
-use Rattle.columns.specs.declared.field.FieldRead.{FieldRead}
-use Rattle.columns.specs.declared.field.FieldRead.TheVariants.{Number, Bad}
+use Rattle.std.specs.Prelude.{ℕ, List, Option, Some, None, Err}
 use Rattle.columns.specs.Field.{kind_of}
-use Rattle.columns.specs.Line.{Reading, read, broken, line_fields, read_within, numbers_over}
-use Rattle.falcon_core.specs.Refusals.{not_a_line}
-use Rattle.requests.specs.Kinds.{Asked, refuses, request_of}
+use Rattle.columns.specs.Line.{line_fields, read_within, numbers_over}
+use Rattle.falcon_core.specs.declared.refusal.Refusal.TheVariants.{NotALine}
+use Rattle.requests.specs.Kinds.{Asked, request_of}
 
 -- what a line asks once it is read
-abbrev pub asked_by : Reading → Asked
-asked_by (read ns) = request_of ns
-asked_by broken = refuses not_a_line
+abbrev pub asked_by : Option (List ℕ) → Asked
+asked_by (Some ns) = request_of ns
+asked_by None = Err NotALine
 
 -- how many fields a line may have, by its kind: "At most 130 fields"
-unfoldable pub limit_fields_of : FieldRead → ℕ
-limit_fields_of (Number n) = line_fields
-limit_fields_of Bad = line_fields
+unfoldable pub limit_fields_of : Option ℕ → ℕ
+limit_fields_of (Some n) = line_fields
+limit_fields_of None = line_fields
 
 -- the most fields that a line of any kind may have
 abbrev pub most_fields : ℕ
 most_fields = line_fields
 
--- what a line says
-unfoldable pub reading_line : List ℕ → Reading
+-- the numbers of a line, or None where it is no sheet line
+unfoldable pub reading_line : List ℕ → Option (List ℕ)
 reading_line line = read_within (limit_fields_of (kind_of line)) line
 
 -- what a line asks: 2, 3, 4 and 5 in this order

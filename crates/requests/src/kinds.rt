@@ -1,21 +1,40 @@
 // The kinds of lines: from the numbers of a line to what it asks.
-ghost use Rattle.std.specs.Prelude.{◌≡◌, ◌+◌, ◌<◌, ◌≤◌, length};
+ghost use Rattle.std.specs.Prelude.{◌≡◌, ◌≢◌, ◌+◌, ◌<◌, ◌≤◌, cond, eqb, leb, length, MatchResult, ok_or};
 ghost use Rattle.falcon_guidance.specs.State.{zone_numbers_of};
-ghost use Rattle.columns.specs.Line.{float_at, flag_at_of};
+ghost use Rattle.falcon_core.specs.declared.refusal.Refusal.TheVariants.{UnknownKind as unknown_kind};
 ghost use Rattle.falcon_record.specs.From.{point_from_of};
-ghost use Rattle.requests.specs.Kinds.{is_flag_of, opening_fields, opening_from_of, opening_line_of, tick_fields, reading_from_of, battery_ok_of, tick_from_of, tick_ok_of, tick_line_of};
-ghost use Rattle.requests.specs.Kinds.{report_line_of, command_line_of, is_list_of, points_line_of, zones_line_of, alone_line_of, request_of, other_asks, Listed, Says};
+ghost use Rattle.requests.specs.Kinds.{opening_line_of, reading_from_of, battery_ok_of, tick_line_of};
+ghost use Rattle.requests.specs.Kinds.{report_line_of, command_line_of, is_list_of, kind_at, request_of, Says};
 
-use falcon_core::calls::Answer;
+use falcon_core::refusal::Refusal;
 use falcon_failsafe::flight::Opening;
 use falcon_guidance::state::{Point, Tick, Zone};
 use relay_batt::Reading;
-use relay_fsm::{Event, FoundEvent};
+use relay_fsm::Event;
 use relay_math::from_bits;
+use std::error::Error;
+use std::fmt;
 
-// What a line asks, by its kind.
-#[derive(Clone, Copy)]
+// The kinds of lines, numbered from 1 in this order.
+#[derive(Clone, Copy, Debug, PartialEq, Eq, Hash)]
 pub enum Kind {
+    Opening,
+    Tick,
+    Report,
+    Command,
+    Points,
+    Zones,
+    Totals,
+    Saves,
+}
+
+// A number that no kind of line has. An error of its own, whose Display says of what.
+#[derive(Clone, Copy, Debug, PartialEq, Eq, Hash)]
+pub struct UnknownKind(pub u32);
+
+// What a line asks.
+#[derive(Clone, Copy)]
+pub enum Call {
     Flight(FlightCall),
     Other(OtherCall),
 }
@@ -32,10 +51,9 @@ pub enum FlightCall {
     },
 }
 
-// What any other line asks, or the refusal that fits it whatever the state. The points or zones of a line stand in its numbers.
+// What any other line asks. The points or zones of a line stand in its numbers.
 #[derive(Clone, Copy)]
 pub enum OtherCall {
-    Refused(u32),
     Opens(Opening),
     Points,
     Zones,
@@ -44,11 +62,6 @@ pub enum OtherCall {
 }
 
 impl Kind {
-    // The kinds of lines whose answers need more room: one asks for the totals, one for the state.
-    pub const TOTALS: u32 = 7;
-
-    pub const SAVES: u32 = 8;
-
     // The fields of a line of each kind.
     pub const OPENING_FIELDS: usize = 10;
 
@@ -63,249 +76,182 @@ impl Kind {
     pub const LIST_HEAD: usize = 2;
 }
 
-// Number k as a float.
-fn float_at(ns: &[u32], k: usize) -> f32
-    requires { k < length ns.now }
-    ensures { result ≡ float_at ns.now k }
-{
-    from_bits(ns[k])
+impl TryFrom<u32> for Kind {
+    type Error = UnknownKind;
+
+    ghost try_from_gives = { λ n r. r ≡ ok_or (kind_at n) (record { 0 = n }) };
+
+    #[tactic(auto, unfolding(crate::specs::Kinds::kind_at))]
+    fn try_from(number: u32) -> Result<Kind, UnknownKind> {
+        match number {
+            1 => Ok(Kind::Opening),
+            2 => Ok(Kind::Tick),
+            3 => Ok(Kind::Report),
+            4 => Ok(Kind::Command),
+            5 => Ok(Kind::Points),
+            6 => Ok(Kind::Zones),
+            7 => Ok(Kind::Totals),
+            8 => Ok(Kind::Saves),
+            _ => Err(UnknownKind(number)),
+        }
+    }
 }
 
-// Number k as a flag.
-fn flag_at(ns: &[u32], k: usize) -> bool
-    requires { k < length ns.now }
-    ensures { result ≡ flag_at_of ns.now k }
-{
-    ns[k] == 1
+impl fmt::Display for UnknownKind {
+    fn fmt<W: fmt::Write>(&self, f: &mut fmt::Formatter<W>) -> fmt::Result {
+        write!(f, "no kind of line has number {}", self.0)
+    }
 }
 
-// Number k is 0 or 1.
-fn is_flag(ns: &[u32], k: usize) -> bool
-    requires { k < length ns.now }
-    ensures { result ≡ is_flag_of ns.now k }
-{
-    ns[k] <= 1
+impl Error for UnknownKind {}
+
+impl From<UnknownKind> for Refusal {
+    ghost from_gives = { λ _ refusal. refusal ≡ unknown_kind };
+
+    fn from(_unknown: UnknownKind) -> Refusal {
+        Refusal::UnknownKind
+    }
 }
 
-// The point that starts at number k.
+// A flag is 0 or 1.
+fn flag(n: u32) -> Result<bool, Refusal>
+    ensures { result ≡ cond (leb n 1) (Ok (eqb n 1)) (Err Refusal.OutOfRange) }
+{
+    match n {
+        0 => Ok(false),
+        1 => Ok(true),
+        _ => Err(Refusal::OutOfRange),
+    }
+}
+
+// The point that starts at number k. A function and no From: Point is another crate's.
 fn point_from(ns: &[u32], k: usize) -> Point
     requires { k + 2 < length ns.now }
     ensures { result ≡ point_from_of ns.now k }
 {
     Point {
-        x: float_at(ns, k),
-        y: float_at(ns, k + 1),
-        z: float_at(ns, k + 2),
+        x: from_bits(ns[k]),
+        y: from_bits(ns[k + 1]),
+        z: from_bits(ns[k + 2]),
     }
 }
 
-// The opening of a line of kind 1.
-fn opening_from(ns: &[u32]) -> Opening
-    requires { length ns.now ≡ opening_fields }
-    ensures { result ≡ opening_from_of ns.now }
+// The numbers of a line that has as many as its kind.
+fn counted<const N: usize>(ns: &[u32]) -> Result<&[u32; N], Refusal>
+    ensures { MatchResult result (λ all. (all.now ≡ ns.now) × (length ns.now ≡ N)) (λ e. (e ≡ Refusal.WrongCount) × (length ns.now ≢ N)) }
 {
-    let home = point_from(ns, 1);
-    Opening {
-        home,
-        fence_radius: float_at(ns, 4),
-        cruise_alt: float_at(ns, 5),
-        low_batt_v: float_at(ns, 6),
-        required: ns[7],
-        passed: ns[8],
-        calibration_configured: flag_at(ns, 9),
-    }
+    ns.try_into().map_err(|_| Refusal::WrongCount)
 }
 
 // A line of kind 1.
-fn opening_line(ns: &[u32]) -> Kind
+#[tactic(auto, unfolding(crate::specs::Kinds::opening_line_of, crate::specs::Kinds::opening_from_of))]
+fn opening_line(ns: &[u32; Kind::OPENING_FIELDS]) -> Result<Call, Refusal>
     ensures { Says result ns.now (opening_line_of ns.now) }
 {
-    if ns.len() != Kind::OPENING_FIELDS {
-        return Kind::Other(OtherCall::Refused(Answer::WRONG_COUNT));
-    }
-    if is_flag(ns, 9) {
-        return Kind::Other(OtherCall::Opens(opening_from(ns)));
-    }
-    Kind::Other(OtherCall::Refused(Answer::OUT_OF_RANGE))
+    Ok(Call::Other(OtherCall::Opens(Opening {
+        home: point_from(ns, 1),
+        fence_radius: from_bits(ns[4]),
+        cruise_alt: from_bits(ns[5]),
+        low_batt_v: from_bits(ns[6]),
+        required: ns[7],
+        passed: ns[8],
+        calibration_configured: flag(ns[9])?,
+    })))
 }
 
-// The battery reading of a line of kind 2.
-fn reading_from(ns: &[u32]) -> Reading
-    requires { length ns.now ≡ tick_fields }
-    ensures { result ≡ reading_from_of ns.now }
+// The battery reading of a line of kind 2: what it leaves out is 0.
+#[tactic(auto, unfolding(crate::specs::Kinds::battery_ok_of, crate::specs::Kinds::reading_from_of))]
+fn reading(ns: &[u32; Kind::TICK_FIELDS]) -> Result<Reading, Refusal>
+    ensures { result ≡ cond (battery_ok_of ns.now) (Ok (reading_from_of ns.now)) (Err Refusal.OutOfRange) }
 {
-    let battery = ns[15];
-    if battery == 0 {
-        return Reading::Nothing;
+    let volts = from_bits(ns[16]);
+    let amps = from_bits(ns[17]);
+    match (ns[15], ns[16], ns[17]) {
+        (0, 0, 0) => Ok(Reading::Nothing),
+        (1, _, 0) => Ok(Reading::Volts(volts)),
+        (2, _, _) => Ok(Reading::VoltsAmps { volts, amps }),
+        _ => Err(Refusal::OutOfRange),
     }
-    let volts = float_at(ns, 16);
-    if battery == 1 {
-        return Reading::Volts(volts);
-    }
-    Reading::VoltsAmps {
-        volts,
-        amps: float_at(ns, 17),
-    }
-}
-
-// The battery number is 0, 1 or 2, and what it leaves out is 0.
-fn battery_ok(ns: &[u32]) -> bool
-    requires { length ns.now ≡ tick_fields }
-    ensures { result ≡ battery_ok_of ns.now }
-{
-    let battery = ns[15];
-    (battery <= 2) & ((0 < battery) | (ns[16] == 0)) & ((1 < battery) | (ns[17] == 0))
-}
-
-// The tick of a line of kind 2.
-fn tick_from(ns: &[u32]) -> Tick
-    requires { length ns.now ≡ tick_fields }
-    ensures { result ≡ tick_from_of ns.now }
-{
-    let p = point_from(ns, 2);
-    let v = point_from(ns, 5);
-    let reading = reading_from(ns);
-    Tick {
-        dt: float_at(ns, 1),
-        p,
-        v,
-        tilt: float_at(ns, 8),
-        tilt_uncertainty: float_at(ns, 9),
-        max_motor: float_at(ns, 10),
-        nav_compromised: flag_at(ns, 11),
-        gnss_diverged: flag_at(ns, 12),
-        failed_motor: flag_at(ns, 13),
-        motor_rpm: flag_at(ns, 14),
-        reading,
-    }
-}
-
-// The flags and the battery of a line of kind 2 are in range.
-fn tick_ok(ns: &[u32]) -> bool
-    requires { length ns.now ≡ tick_fields }
-    ensures { result ≡ tick_ok_of ns.now }
-{
-    is_flag(ns, 11) & is_flag(ns, 12) & is_flag(ns, 13) & is_flag(ns, 14) & battery_ok(ns)
 }
 
 // A line of kind 2.
-fn tick_line(ns: &[u32]) -> Kind
+#[tactic(auto, unfolding(crate::specs::Kinds::tick_line_of, crate::specs::Kinds::tick_from_of, crate::specs::Kinds::tick_ok_of))]
+fn tick_line(ns: &[u32; Kind::TICK_FIELDS]) -> Result<Call, Refusal>
     ensures { Says result ns.now (tick_line_of ns.now) }
 {
-    if ns.len() != Kind::TICK_FIELDS {
-        return Kind::Other(OtherCall::Refused(Answer::WRONG_COUNT));
-    }
-    if tick_ok(ns) {
-        return Kind::Flight(FlightCall::Ticks(tick_from(ns)));
-    }
-    Kind::Other(OtherCall::Refused(Answer::OUT_OF_RANGE))
+    Ok(Call::Flight(FlightCall::Ticks(Tick {
+        dt: from_bits(ns[1]),
+        p: point_from(ns, 2),
+        v: point_from(ns, 5),
+        tilt: from_bits(ns[8]),
+        tilt_uncertainty: from_bits(ns[9]),
+        max_motor: from_bits(ns[10]),
+        nav_compromised: flag(ns[11])?,
+        gnss_diverged: flag(ns[12])?,
+        failed_motor: flag(ns[13])?,
+        motor_rpm: flag(ns[14])?,
+        reading: reading(ns)?,
+    })))
 }
 
 // A line of kind 3.
-fn report_line(ns: &[u32]) -> Kind
+#[tactic(auto, unfolding(crate::specs::Kinds::report_line_of))]
+fn report_line(ns: &[u32; Kind::REPORT_FIELDS]) -> Result<Call, Refusal>
     ensures { Says result ns.now (report_line_of ns.now) }
 {
-    if ns.len() != Kind::REPORT_FIELDS {
-        return Kind::Other(OtherCall::Refused(Answer::WRONG_COUNT));
-    }
-    if is_flag(ns, 1) {
-        return Kind::Flight(FlightCall::Reports(flag_at(ns, 1)));
-    }
-    Kind::Other(OtherCall::Refused(Answer::OUT_OF_RANGE))
+    Ok(Call::Flight(FlightCall::Reports(flag(ns[1])?)))
 }
 
 // A line of kind 4.
-fn command_line(ns: &[u32]) -> Kind
+#[tactic(auto, unfolding(crate::specs::Kinds::command_line_of))]
+fn command_line(ns: &[u32; Kind::COMMAND_FIELDS]) -> Result<Call, Refusal>
     ensures { Says result ns.now (command_line_of ns.now) }
 {
-    if ns.len() != Kind::COMMAND_FIELDS {
-        return Kind::Other(OtherCall::Refused(Answer::WRONG_COUNT));
-    }
-    if is_flag(ns, 2) & is_flag(ns, 3) {
-        let FoundEvent::Known(ev) = Event::from_number(ns[1]) else {
-            return Kind::Other(OtherCall::Refused(Answer::OUT_OF_RANGE));
-        };
-        return Kind::Flight(FlightCall::Commands {
-            ev,
-            level: flag_at(ns, 2),
-            throttle_low: flag_at(ns, 3),
-        });
-    }
-    Kind::Other(OtherCall::Refused(Answer::OUT_OF_RANGE))
+    Ok(Call::Flight(FlightCall::Commands {
+        ev: Event::try_from(ns[1]).map_err(|_| Refusal::OutOfRange)?,
+        level: flag(ns[2])?,
+        throttle_low: flag(ns[3])?,
+    }))
 }
 
-// A line of points or zones has so many numbers for each of them.
-fn is_list(ns: &[u32], width: usize) -> bool
+// Whether a line of points or zones has the numbers that it says, `width` for each.
+fn list_line(ns: &[u32], width: usize) -> Result<(), Refusal>
     requires { width ≤ zone_numbers_of }
-    ensures { result ≡ is_list_of width ns.now }
+    ensures { result ≡ cond (is_list_of width ns.now) (Ok tt) (Err Refusal.WrongCount) }
 {
-    if ns.len() < Kind::LIST_HEAD {
-        return false;
+    let count = *ns.get(1).ok_or(Refusal::WrongCount)?;
+    if ns.len() != Kind::LIST_HEAD + width * count as usize {
+        return Err(Refusal::WrongCount);
     }
-    let count = ns[1] as usize;
-    ns.len() == Kind::LIST_HEAD + width * count
-}
-
-// A line of kind 5.
-fn points_line(ns: &[u32]) -> Kind
-    ensures { Says result ns.now (points_line_of ns.now) }
-{
-    if is_list(ns, Point::NUMBERS) {
-        return Kind::Other(OtherCall::Points);
-    }
-    Kind::Other(OtherCall::Refused(Answer::WRONG_COUNT))
-}
-
-// A line of kind 6.
-fn zones_line(ns: &[u32]) -> Kind
-    ensures { Says result ns.now (zones_line_of ns.now) }
-{
-    if is_list(ns, Zone::NUMBERS) {
-        return Kind::Other(OtherCall::Zones);
-    }
-    Kind::Other(OtherCall::Refused(Answer::WRONG_COUNT))
-}
-
-// A line of a kind that has no further field.
-fn alone_line(ns: &[u32], call: OtherCall) -> Kind
-    requires { Listed call ns.now }
-    ensures { Says result ns.now (alone_line_of ns.now (other_asks ns.now call)) }
-{
-    if ns.len() != Kind::ALONE_FIELDS {
-        return Kind::Other(OtherCall::Refused(Answer::WRONG_COUNT));
-    }
-    Kind::Other(call)
+    Ok(())
 }
 
 // What the numbers of a line ask, by its kind.
-pub(crate) fn kind_of(ns: &[u32]) -> Kind
+#[tactic(auto, unfolding(crate::specs::Kinds::request_of, crate::specs::Kinds::kind_at, crate::specs::Kinds::points_line_of, crate::specs::Kinds::zones_line_of, crate::specs::Kinds::alone_line_of, crate::specs::Kinds::opening_line_of, crate::specs::Kinds::tick_line_of, crate::specs::Kinds::report_line_of, crate::specs::Kinds::command_line_of))]
+pub(crate) fn call_of(ns: &[u32]) -> Result<Call, Refusal>
     requires { 0 < length ns.now }
     ensures { Says result ns.now (request_of ns.now) }
 {
-    let kind = ns[0];
-    if kind == 1 {
-        return opening_line(ns);
+    match Kind::try_from(ns[0])? {
+        Kind::Opening => opening_line(counted(ns)?),
+        Kind::Tick => tick_line(counted(ns)?),
+        Kind::Report => report_line(counted(ns)?),
+        Kind::Command => command_line(counted(ns)?),
+        Kind::Points => {
+            list_line(ns, Point::NUMBERS)?;
+            Ok(Call::Other(OtherCall::Points))
+        }
+        Kind::Zones => {
+            list_line(ns, Zone::NUMBERS)?;
+            Ok(Call::Other(OtherCall::Zones))
+        }
+        Kind::Totals => {
+            counted::<{ Kind::ALONE_FIELDS }>(ns)?;
+            Ok(Call::Other(OtherCall::Totals))
+        }
+        Kind::Saves => {
+            counted::<{ Kind::ALONE_FIELDS }>(ns)?;
+            Ok(Call::Other(OtherCall::Saves))
+        }
     }
-    if kind == 2 {
-        return tick_line(ns);
-    }
-    if kind == 3 {
-        return report_line(ns);
-    }
-    if kind == 4 {
-        return command_line(ns);
-    }
-    if kind == 5 {
-        return points_line(ns);
-    }
-    if kind == 6 {
-        return zones_line(ns);
-    }
-    if kind == Kind::TOTALS {
-        return alone_line(ns, OtherCall::Totals);
-    }
-    if kind == Kind::SAVES {
-        return alone_line(ns, OtherCall::Saves);
-    }
-    Kind::Other(OtherCall::Refused(Answer::UNKNOWN_KIND))
 }

@@ -5,10 +5,10 @@ use mathlib.Core.List.{List, [], ◌∷◌, ◌++◌}
 use lib.ListN.{take}
 use lib.Seq.{take-take}
 use lib.Dec.{lit≤}
-use Rattle.columns.specs.declared.field.FieldRead.TheVariants.{Number, Bad}
+use Rattle.std.specs.Prelude.{Some, None}
 use Rattle.columns.specs.Field.{field_width, in_range, digits, start, spaced, field_read, column, columns, field_of, spaces}
 use Rattle.requests.specs.ByLine.{answer_width}
-use Rattle.columns.specs.Line.{line_fields, read, broken, onto, before, fields, length_ok, read_within, read_line_of, line_of}
+use Rattle.columns.specs.Line.{line_fields, onto, before, fields, length_ok, read_within, read_line_of, line_of}
 use Rattle.sheet.specs.Lines.{ahead, whole, joined, rest, last_line, lines_of, together, answers, states_after, stream}
 use Rattle.sheet.proofs.LinesCut.{stream_all}
 
@@ -17,24 +17,24 @@ largest : field_of 4294967295 ≡ 32 ∷ 52 ∷ 50 ∷ 57 ∷ 52 ∷ 57 ∷ 54 �
 unfolding field_of columns column
 largest = refl
 
-largest_read : field_read (32 ∷ 52 ∷ 50 ∷ 57 ∷ 52 ∷ 57 ∷ 54 ∷ 55 ∷ 50 ∷ 57 ∷ 53 ∷ []) ≡ Number 4294967295
+largest_read : field_read (32 ∷ 52 ∷ 50 ∷ 57 ∷ 52 ∷ 57 ∷ 54 ∷ 55 ∷ 50 ∷ 57 ∷ 53 ∷ []) ≡ Some 4294967295
 unfolding field_read spaced start digits in_range
 largest_read = refl
 
-too_large : field_read (32 ∷ 52 ∷ 50 ∷ 57 ∷ 52 ∷ 57 ∷ 54 ∷ 55 ∷ 50 ∷ 57 ∷ 54 ∷ []) ≡ Bad
+too_large : field_read (32 ∷ 52 ∷ 50 ∷ 57 ∷ 52 ∷ 57 ∷ 54 ∷ 55 ∷ 50 ∷ 57 ∷ 54 ∷ []) ≡ None
 unfolding field_read spaced start digits in_range
 too_large = refl
 
-leading_zero : field_read (spaces 9 ++ (48 ∷ 49 ∷ [])) ≡ Bad
+leading_zero : field_read (spaces 9 ++ (48 ∷ 49 ∷ [])) ≡ None
 unfolding field_read spaced start digits in_range
 leading_zero = refl
 
 -- `12`, two bytes, of the refusal table
-two_bytes : read_line_of (49 ∷ 50 ∷ []) ≡ broken
+two_bytes : read_line_of (49 ∷ 50 ∷ []) ≡ None
 unfolding read_within length_ok
 two_bytes = refl
 
-command : read_line_of (line_of (4 ∷ 0 ∷ 1 ∷ 1 ∷ [])) ≡ read (4 ∷ 0 ∷ 1 ∷ 1 ∷ [])
+command : read_line_of (line_of (4 ∷ 0 ∷ 1 ∷ 1 ∷ [])) ≡ Some (4 ∷ 0 ∷ 1 ∷ 1 ∷ [])
 unfolding read_within length_ok fields before onto field_read spaced start digits in_range line_of field_of columns column
 command = refl
 

@@ -1,35 +1,33 @@
--- Numbers copied or read as floats into a lent array, one after the other. Assumes nothing.
-use Prim.Native.Nat.{ℕ, zero, suc, ◌+◌, ◌-◌, ◌≤◌, ◌<◌}
-use native.Mathlib.Omega.{arith}
-use native.Mathlib.Nat.{not-suc-le-zero, le_of_suc-le-suc}
-use mathlib.Core.Path.{◌≡◌, refl, sym, ap, ◌∙◌}
-use mathlib.Core.List.{List, [], ◌∷◌, ◌++◌, map}
-use lib.ListN.{length, get_or, take, drop, set, length-drop, length-map}
-use lib.Seq.{length-take-le, take-append_seam}
-use Rattle.columns.proofs.LineTurns.{slice_take}
+-- The numbers of a line read as floats. Assumes nothing.
+use Rattle.std.proofs.Common.{ℕ, ◌+◌, ◌-◌, ◌<◌, ◌≡◌, List, map, length, take, drop, sym, ap, ◌∙◌, arith}
+use Rattle.std.specs.Fn.{Called}
+use Rattle.std.specs.Array.{IsMapOf}
+use Rattle.std.proofs.lemmas.List.{same_lists, get_or-map, length-map, drop-take, take-map, drop-map}
 use Rattle.requests.specs.Kinds.{list_head}
+use denote.Param.Members.{Mut}
 
-module _ {A : Type 0} (f : ℕ → A) where
-  -- one number more
-  pub mapped_next :
-      (ns : List ℕ) (d : List A) (i : ℕ) →
-      i < length ns →
-      length ns ≤ length d →
-      set (map f (take i ns) ++ drop i d) i (f (get_or ns i 0)) ≡ map f (take (suc i) ns) ++ drop (suc i) d
-  mapped_next [] d i h k = absurd (not-suc-le-zero h)
-  mapped_next (n ∷ ns) [] i h k = absurd (not-suc-le-zero k)
-  mapped_next (n ∷ ns) (x ∷ d) zero h k = refl
-  mapped_next (n ∷ ns) (x ∷ d) (suc i) h k =
-      ap {B = List A} (λ l. f n ∷ l) (mapped_next ns d i (le_of_suc-le-suc h) (le_of_suc-le-suc k))
+-- what `map` of an array gives where each call computes h
+module _ {F B : Type 0} (g : Mut F (ℕ × Unit {0}) B) (h : ℕ → B) where
+  pub map_is :
+      (f : F) (xs : List ℕ) (ys : List B) (n : ℕ) →
+      ((p : F) (x : ℕ) (y : B) (q : F) → Called g p (x, tt) y q → y ≡ h x) →
+      length xs ≡ n →
+      IsMapOf g f xs ys n →
+      ys ≡ map h xs
+  map_is f xs ys n computes long m =
+      same_lists ys (map h xs) (m.long ∙ sym (length-map xs h ∙ long))
+      (λ k d lt.
+      let below : k < n = omega (arith, m.long) in
+      let c = m.at k 0 d below in
+      computes c.0 _ _ c.1 c.2 ∙ sym (get_or-map h xs k 0 d (omega arith)))
 
--- so many floats, read from a line's part
+-- the floats of a line of points or zones
 pub lent_is :
-    {A : Type 0} (f : ℕ → A) (ns : List ℕ) (m : ℕ) (d last : List A) →
-    list_head + m ≤ length ns →
-    last ≡ map f (take (list_head + m - list_head) (drop list_head ns)) ++ drop (length (take (list_head + m - list_head) (drop list_head ns))) d →
-    take m last ≡ map f (drop list_head (take (list_head + m) ns))
-lent_is f ns m d last h e =
+    {A : Type 0} (f : ℕ → A) (ns : List ℕ) (m : ℕ) (fs : List A) →
+    fs ≡ map f ns →
+    take (list_head + m - list_head) (drop list_head fs) ≡ map f (drop list_head (take (list_head + m) ns))
+lent_is {A} f ns m fs e =
     let z : list_head + m - list_head ≡ m = omega arith in
-    let q : take (list_head + m - list_head) (drop list_head ns) ≡ drop list_head (take (list_head + m) ns) = ap (λ (k : ℕ). take k (drop list_head ns)) z ∙ sym (slice_take ns list_head m (omega arith)) in
-    let n : length (map f (drop list_head (take (list_head + m) ns))) ≡ m = length-map (drop list_head (take (list_head + m) ns)) f ∙ omega (arith, length-drop list_head (take (list_head + m) ns), length-take-le (list_head + m) ns h) in
-    rw (e, q) (ap (λ (k : ℕ). take k (map f (drop list_head (take (list_head + m) ns)) ++ drop (length (drop list_head (take (list_head + m) ns))) d)) (sym n) ∙ take-append_seam (map f (drop list_head (take (list_head + m) ns))) (drop (length (drop list_head (take (list_head + m) ns))) d))
+    ap (λ (k : ℕ). take k (drop list_head fs)) z
+    ∙ ap (λ (l : List A). take m (drop list_head l)) e
+    ∙ simp (drop-map, take-map, drop-take list_head m ns)

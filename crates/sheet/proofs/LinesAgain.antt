@@ -8,6 +8,8 @@ use mathlib.Core.List.Memᴰ
 use mathlib.Core.List.{List, [], ◌∷◌, ◌++◌, append-nil, append_assoc, append_cancel_left, Memᴰ}
 use lib.ListN.{length, take, drop, length-append, take-append-drop, length-drop}
 use lib.Seq.{drop-append-add, drop-append_seam, drop-drop, take_all}
+use Rattle.std.specs.List.{All}
+use Rattle.std.proofs.lemmas.List.Elements.{All-nil, All-cons, All-head, All-tail, All-append, All-drop}
 use borrow.Author.Tests.{eq-eqb, ne_eqb}
 use Rattle.sheet.specs.Lines.{newline, ahead, whole, joined, rest, last_line, lines_of, line_end}
 
@@ -21,13 +23,10 @@ whole_newline : (b : ℕ) (s : List ℕ) → b ≡ newline → whole (b ∷ s) �
 unfolding whole
 whole_newline b s e = simp (eq-eqb b newline e)
 
-pub cons_never : {P : Type 0} (l : List ℕ) (ls : List (List ℕ)) → l ∷ ls ≡ [] → P
-cons_never l ls h = let z : ◌≡◌ {A = ℕ} 0 1 = cc in absurd (omega arith)
-
 ahead_none : (b : ℕ) (ls : List (List ℕ)) → ahead b ls ≡ [] → ls ≡ []
 unfolding ahead
 ahead_none b [] h = refl
-ahead_none b (l ∷ ls) h = cons_never (b ∷ l) ls h
+ahead_none b (l ∷ ls) h = cc
 
 -- bytes without a newline, from the first on
 record Bare (b : ℕ) (s : List ℕ) : Type 0 where
@@ -37,7 +36,7 @@ record Bare (b : ℕ) (s : List ℕ) : Type 0 where
 bare_is : (b : ℕ) (s : List ℕ) → whole (b ∷ s) ≡ [] → Bare b s
 bare_is b s h =
     elim (ℕ_discrete b newline) [
-      | yes e ↦ cons_never [] (whole s) (sym (whole_newline b s e) ∙ h)
+      | yes e ↦ let never : [] ∷ whole s ≡ [] = sym (whole_newline b s e) ∙ h in cc
       | no q ↦ record { first = q; others = ahead_none b (whole s) (sym (whole_other b s q) ∙ h) }
     ]
 
@@ -75,21 +74,23 @@ whole_line (b ∷ l) t h =
 
 -- ---- lines without a newline in them
 
+abbrev pub IsBare : List ℕ → Type 0
+IsBare l = whole l ≡ []
+
 abbrev pub AllBare : List (List ℕ) → Type 0
-AllBare [] = Unit
-AllBare (l ∷ ls) = (whole l ≡ []) × AllBare ls
+AllBare ls = All IsBare ls
 
 ahead_bare : (b : ℕ) (ls : List (List ℕ)) → (b ≡ newline → ⊥) → AllBare ls → AllBare (ahead b ls)
 unfolding ahead
-ahead_bare b [] q h = tt
-ahead_bare b (l ∷ ls) q h = (bare_cons b l q h.0, h.1)
+ahead_bare b [] q h = All-nil IsBare
+ahead_bare b (l ∷ ls) q h = All-cons IsBare (b ∷ l) ls (bare_cons b l q (All-head IsBare l ls h)) (All-tail IsBare l ls h)
 
 pub whole_bare : (s : List ℕ) → AllBare (whole s)
 unfolding whole
-whole_bare [] = tt
+whole_bare [] = All-nil IsBare
 whole_bare (b ∷ s) =
     elim (ℕ_discrete b newline) [
-      | yes e ↦ rw (whole_newline b s e) (refl, whole_bare s)
+      | yes e ↦ rw (whole_newline b s e) (All-cons IsBare [] (whole s) refl (whole_bare s))
       | no q ↦ rw (whole_other b s q) (ahead_bare b (whole s) q (whole_bare s))
     ]
 
@@ -98,8 +99,8 @@ unfolding joined
 whole_joined [] t h = refl
 whole_joined (l ∷ ls) t h =
     ap whole (append_assoc l (newline ∷ joined ls) t)
-    ∙ whole_line l (joined ls ++ t) h.0
-    ∙ ap (λ (ms : List (List ℕ)). l ∷ ms) (whole_joined ls t h.1)
+    ∙ whole_line l (joined ls ++ t) (All-head IsBare l ls h)
+    ∙ ap (λ (ms : List (List ℕ)). l ∷ ms) (whole_joined ls t (All-tail IsBare l ls h))
 
 pub joined_append : (ls ms : List (List ℕ)) → joined (ls ++ ms) ≡ joined ls ++ joined ms
 unfolding joined
@@ -200,23 +201,19 @@ lines_again_last s q =
 
 last_bare : (r : List ℕ) → whole r ≡ [] → AllBare (last_line r)
 unfolding last_line
-last_bare [] h = tt
-last_bare (b ∷ r) h = (h, tt)
-
-bare_both : (ls ms : List (List ℕ)) → AllBare ls → AllBare ms → AllBare (ls ++ ms)
-bare_both [] ms h k = k
-bare_both (l ∷ ls) ms h k = (h.0, bare_both ls ms h.1 k)
+last_bare [] h = All-nil IsBare
+last_bare (b ∷ r) h = All-cons IsBare (b ∷ r) [] h (All-nil IsBare)
 
 all_none : (ls : List (List ℕ)) (l : List ℕ) → AllBare ls → Memᴰ l ls → Memᴰ newline l → ⊥
 all_none [] l h m n = Memᴰ.not-nil m
-all_none (k ∷ ls) l h m n = ⊎_elim (λ e. bare_none l (ap whole e ∙ h.0) n) (λ i. all_none ls l h.1 i n) (Memᴰ.cases_cons m)
+all_none (k ∷ ls) l h m n = ⊎_elim (λ e. bare_none l (ap whole e ∙ All-head IsBare k ls h) n) (λ i. all_none ls l (All-tail IsBare k ls h) i n) (Memᴰ.cases_cons m)
 
 -- no line holds a newline
 pub lines_bare : (s l : List ℕ) → Memᴰ l (lines_of s) → Memᴰ newline l → ⊥
 unfolding lines_of
-lines_bare s l = all_none (lines_of s) l (bare_both (whole s) (last_line (rest s)) (whole_bare s) (last_bare (rest s) (rest_bare s)))
+lines_bare s l = all_none (lines_of s) l (All-append IsBare (whole s) (last_line (rest s)) (whole_bare s) (last_bare (rest s) (rest_bare s)))
 
-joined_most : (ls : List (List ℕ)) → length ls ≤ length (joined ls)
+pub joined_most : (ls : List (List ℕ)) → length ls ≤ length (joined ls)
 unfolding joined
 joined_most [] = omega arith
 joined_most (l ∷ ls) = omega (arith, length-append l (newline ∷ joined ls), joined_most ls)
@@ -244,11 +241,6 @@ lines_most s =
 
 -- ---- the first n whole lines taken off the front
 
-drop_bare : (n : ℕ) (ls : List (List ℕ)) → AllBare ls → AllBare (drop n ls)
-drop_bare zero ls h = h
-drop_bare (suc n) [] h = tt
-drop_bare (suc n) (l ∷ ls) h = drop_bare n ls h.1
-
 module _ (n : ℕ) (s : List ℕ) where
   parts : joined (take n (whole s)) ++ (joined (drop n (whole s)) ++ rest s) ≡ s
   parts =
@@ -270,7 +262,7 @@ module _ (n : ℕ) (s : List ℕ) where
   pub whole_off : whole (drop (length (joined (take n (whole s)))) s) ≡ drop n (whole s)
   whole_off =
       ap whole back
-      ∙ whole_joined (drop n (whole s)) (rest s) (drop_bare n (whole s) (whole_bare s))
+      ∙ whole_joined (drop n (whole s)) (rest s) (All-drop IsBare n (whole s) (whole_bare s))
       ∙ ap (λ (ls : List (List ℕ)). drop n (whole s) ++ ls) (rest_bare s)
       ∙ append-nil (drop n (whole s))
 
@@ -278,18 +270,10 @@ module _ (n : ℕ) (s : List ℕ) where
   pub rest_off : rest (drop (length (joined (take n (whole s)))) s) ≡ rest s
   rest_off =
       ap rest back
-      ∙ rest_joined (drop n (whole s)) (rest s) (drop_bare n (whole s) (whole_bare s))
+      ∙ rest_joined (drop n (whole s)) (rest s) (All-drop IsBare n (whole s) (whole_bare s))
       ∙ rest_all (rest s) (rest_bare s)
 
 -- ---- the first line, by where it ends
-
-pub end_other : (b : ℕ) (s : List ℕ) → (b ≡ newline → ⊥) → line_end (b ∷ s) ≡ suc (line_end s)
-unfolding line_end
-end_other b s q = simp (ne_eqb b newline q)
-
-pub end_newline : (b : ℕ) (s : List ℕ) → b ≡ newline → line_end (b ∷ s) ≡ 0
-unfolding line_end
-end_newline b s e = simp (eq-eqb b newline e)
 
 -- the bytes before the first newline, and whether there is one
 pub record Ends (s : List ℕ) (n : ℕ) : Type 0 where

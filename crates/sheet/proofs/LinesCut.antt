@@ -6,15 +6,15 @@ use mathlib.Core.Path.{◌≡◌, refl, sym, ap, ◌∙◌}
 use mathlib.Core.List.{List, [], ◌∷◌, ◌++◌, map, append-nil, append_assoc, map-append}
 use lib.ListN.{length, take, length-append}
 use lib.Seq.{take-nil}
+use Rattle.std.proofs.lemmas.Grind.{common_steps}
+use Rattle.std.proofs.lemmas.List.Elements.{All-nil, All-cons, All-head}
 use Rattle.sheet.specs.Lines.{newline, whole, joined, rest, last_line, lines_of, together, answers, states_after, stream}
-use Rattle.sheet.proofs.LinesAgain.{AllBare, bare_append, bare_take, whole_bare, whole_joined, joined_rest, rest_bare, rest_joined, rest_all, lines_split, whole_split, rest_split}
+use Rattle.sheet.proofs.LinesAgain.{IsBare, AllBare, bare_append, bare_take, whole_bare, whole_joined, joined_rest, rest_bare, rest_joined, rest_all, lines_split, whole_split, rest_split}
 
 -- ---- lines cut to their first n bytes
 
 cut_take : (n : ℕ) (s t : List ℕ) → take n (take n s ++ t) ≡ take n (s ++ t)
-cut_take zero s t = refl
-cut_take (suc n) [] t = refl
-cut_take (suc n) (b ∷ s) t = ap (λ (l : List ℕ). b ∷ l) (cut_take n s t)
+cut_take n s t = grind (arith, common_steps)
 
 pub cut_last : (n : ℕ) (r : List ℕ) → 0 < n → map (take n) (last_line r) ≡ last_line (take n r)
 unfolding last_line
@@ -45,9 +45,9 @@ module _ (n : ℕ) (some : 0 < n) (q : List ℕ) (bare : whole q ≡ []) where
       let front : (p : List ℕ) → p ++ t ≡ joined ((p ++ l) ∷ []) ++ u =
       λ p. ap (λ (r : List ℕ). p ++ r) (sym parts) ∙ sym (append_assoc p l (newline ∷ u)) ∙ sym (append_assoc (p ++ l) (newline ∷ []) u) in
       let lines : (p : List ℕ) → whole p ≡ [] → whole (p ++ t) ≡ (p ++ l) ∷ whole u =
-      λ p b. ap whole (front p) ∙ whole_joined ((p ++ l) ∷ []) u (bare_append p l b h.0, tt) in
+      λ p b. ap whole (front p) ∙ whole_joined ((p ++ l) ∷ []) u (All-cons IsBare (p ++ l) [] (bare_append p l b (All-head IsBare l ls h)) (All-nil IsBare)) in
       let behind : (p : List ℕ) → whole p ≡ [] → rest (p ++ t) ≡ rest u =
-      λ p b. ap rest (front p) ∙ rest_joined ((p ++ l) ∷ []) u (bare_append p l b h.0, tt) in (
+      λ p b. ap rest (front p) ∙ rest_joined ((p ++ l) ∷ []) u (All-cons IsBare (p ++ l) [] (bare_append p l b (All-head IsBare l ls h)) (All-nil IsBare)) in (
         ap (map (take n)) (lines (take n q) (bare_take n q bare))
             ∙ ap (λ (k : List ℕ). k ∷ map (take n) (whole u)) (cut_take n q l)
             ∙ ap (map (take n)) (sym (lines q bare)),

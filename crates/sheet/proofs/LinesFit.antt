@@ -12,9 +12,9 @@ use Rattle.sheet.proofs.LinesAgain.{line_at}
 use Rattle.sheet.proofs.LinesTurns.{take_next, Going, going_left}
 
 drop_next : (ls : List (List ℕ)) (k : ℕ) (l : List ℕ) (ms : List (List ℕ)) → drop k ls ≡ l ∷ ms → drop (suc k) ls ≡ ms
-drop_next [] zero l ms h = let z : ◌≡◌ {A = ℕ} 0 1 = cc in absurd (omega arith)
+drop_next [] zero l ms h = cc
 drop_next (x ∷ ls) zero l ms h = cc
-drop_next [] (suc k) l ms h = let z : ◌≡◌ {A = ℕ} 0 1 = cc in absurd (omega arith)
+drop_next [] (suc k) l ms h = cc
 drop_next (x ∷ ls) (suc k) l ms h = drop_next ls k l ms h
 
 module _ {S : Type 0} (after : S → List ℕ → S) (reply : S → List ℕ → List ℕ) (need : List ℕ → ℕ) where

@@ -1,86 +1,73 @@
 -- The turns of the loops over many lines: the search for a newline, and answers written one after the other. Assumes nothing.
 use Prim.Native.Nat.{ℕ, zero, suc, min, ◌+◌, ◌-◌, ◌≤◌, ◌<◌}
-use native.Mathlib.Nat.{add-zero}
 use native.Mathlib.Numerals.{add-one}
 use native.Mathlib.Omega.{arith}
 use mathlib.Core.Path.{◌≡◌, refl, sym, ap, ◌∙◌}
-use mathlib.Core.Bool.{Bool, true, false, ◌||◌, true≢false}
+use mathlib.Core.Bool.{true, false, not, cond, ◌||◌, true≢false}
+use Rattle.std.specs.Prelude.{Option, None, Some, MatchOption, position}
+use Rattle.std.specs.List.{list_any, position_or_len}
+use Rattle.std.proofs.lemmas.Grind.{same_number_lists}
+use Rattle.std.proofs.lemmas.List.{take_rest}
+use Rattle.std.proofs.lemmas.Bool.Decides.{nat_tests}
 use mathlib.Core.List.{List, [], ◌∷◌, ◌++◌, append-nil}
 use lib.Dec.{eqb}
 use lib.ListN.{length, get_or, set, take, drop, length-append, length-take, length-drop, drop_of_length-le}
-use lib.Seq.{slice, length-take-le, take_all, take-suc, drop-cons, drop-drop, append_snoc, set_at, get_or-take, get_or-drop, get_or-append-add}
-use borrow.Author.Tests.{eqb-false}
+use lib.Seq.{slice, length-take-le, drop-drop, get_or-take, get_or-drop}
+use borrow.Author.Tests.{lt-ltb, le-ltb}
+use native.Mathlib.Decide.{dec_lt}
 use Rattle.columns.specs.Field.{put}
-use Rattle.sheet.specs.Lines.{newline, whole, joined, rest, line_end, Clear, kept_width, kept_of, answers, states_after}
-use Rattle.sheet.proofs.LinesAgain.{end_other, end_newline, joined_append, whole_off, line_at, line_none}
+use Rattle.sheet.specs.Lines.{newline, whole, joined, rest, line_end, newline_at, kept_width, kept_of, answers, states_after}
+use Rattle.sheet.proofs.LinesAgain.{joined_append, whole_off, line_at, line_none}
 use Rattle.sheet.proofs.LinesCut.{answers_append, states_append}
 use Rattle.columns.proofs.Writing.{put_more, put_seam}
 
--- ---- the turns of `next_newline` and `has_newline`
+-- ---- the search for a newline
 
-module _ (l : List ℕ) (i : ℕ) where
-  pub end_found : i < length l → get_or l i 0 ≡ newline → i ≡ i + line_end (drop i l)
-  end_found h e =
-      let z : line_end (drop i l) ≡ 0 = ap line_end (drop-cons l i 0 h) ∙ end_newline (get_or l i 0) (drop (suc i) l) e in
-      omega arith
+-- `line_end` is the first place that passes the test, or the length
+line_end_first : (l : List ℕ) → line_end l ≡ position_or_len (λ b. eqb b newline) l
+unfolding line_end
+line_end_first [] = refl
+line_end_first (b ∷ l) =
+    elim (eqb b newline) as (λ t. cond t zero (suc (line_end l)) ≡ cond (not t) (1 + position_or_len (λ b. eqb b newline) l) zero)
+    [ true ↦ refl | false ↦ ap suc (line_end_first l) ∙ omega arith ]
 
-  pub end_next : i < length l → (get_or l i 0 ≡ newline → ⊥) → i + line_end (drop i l) ≡ i + 1 + line_end (drop (i + 1) l)
-  end_next h q =
-      let one : line_end (drop i l) ≡ suc (line_end (drop (i + 1) l)) =
-      ap line_end (drop-cons l i 0 h)
-      ∙ end_other (get_or l i 0) (drop (suc i) l) q
-      ∙ ap (λ (k : ℕ). suc (line_end (drop k l))) (sym (add-one i)) in
-      omega arith
+-- a block with no newline is passed whole
+pub block_passed : (l : List ℕ) (n : ℕ) → list_any (λ b. eqb b newline) (take n l) ≡ false → n ≤ length l → line_end l ≡ n + line_end (drop n l)
+unfolding line_end
+block_passed l zero none h = omega arith
+block_passed [] (suc n) none h = absurd (omega arith)
+block_passed (b ∷ l) (suc n) none h =
+    (elim (eqb b newline) as (λ t. (t || list_any (λ b. eqb b newline) (take n l)) ≡ false → cond t zero (suc (line_end l)) ≡ suc n + line_end (drop n l))
+    [ true ↦ λ e. absurd (true≢false e) | false ↦ λ e. ap suc (block_passed l n e (omega arith)) ∙ omega arith ])
+    none
 
-  pub end_past : length l ≤ i → i ≡ i + line_end (drop i l)
-  unfolding line_end
-  end_past h =
-      let z : line_end (drop i l) ≡ 0 = ap line_end (drop_of_length-le l h) in
-      omega arith
+-- what `position` answers is the place or none
+pub place_found : (l : List ℕ) (k : ℕ) → position (λ b. eqb b newline) l ≡ Some k → (k < length l) × (line_end l ≡ k)
+place_found l k e = grind (arith, nat_tests, line_end_first l)
 
-or_none : (a b : Bool) → (a || b) ≡ false → (a ≡ false) × (b ≡ false)
-or_none true b h = absurd (true≢false h)
-or_none false b h = (refl, h)
+pub place_none : (l : List ℕ) → position (λ b. eqb b newline) l ≡ None → length l ≤ line_end l
+place_none l e = grind (arith, nat_tests, line_end_first l)
 
--- one byte more of a block
-pub block_next : (l : List ℕ) (at k : ℕ) (found : Bool) → at + k < length l → (found ≡ false → Clear l at (at + k))
-    → (found || eqb (get_or l (at + k) 0) newline) ≡ false → Clear l at (at + (k + 1))
-block_next l at k found h clear none =
-    let both : (found ≡ false) × (eqb (get_or l (at + k) 0) newline ≡ false) = or_none found (eqb (get_or l (at + k) 0) newline) none in
-    let e : at + k + 1 ≡ at + (k + 1) = omega arith in
-    clear both.0 ∙ end_next l (at + k) h (eqb-false (get_or l (at + k) 0) newline both.1) ∙ ap (λ (m : ℕ). m + line_end (drop m l)) e
+-- a place, or none
+pub place_is : (l : List ℕ) (from e : ℕ) → e < length l → e ≡ from + line_end (drop from l) → Some e ≡ newline_at l from
+unfolding newline_at
+place_is l from e h is = rw (lt-ltb (from + line_end (drop from l)) (length l) (omega arith)) (ap {B = Option ℕ} (λ k. Some k) is)
 
-pub block_none : (l : List ℕ) (at : ℕ) → Clear l at (at + 0)
-block_none l at = ap (λ (m : ℕ). m + line_end (drop m l)) (sym (add-zero at))
+pub no_place : (l : List ℕ) (from : ℕ) → length l ≤ from + line_end (drop from l) → None ≡ newline_at l from
+unfolding newline_at
+no_place l from h = rw (le-ltb (from + line_end (drop from l)) (length l) h) refl
 
-pub clear_same : (l : List ℕ) (at i j : ℕ) → i ≡ j → Clear l at i → Clear l at j
-clear_same l at i j e clear = clear ∙ ap (λ (m : ℕ). m + line_end (drop m l)) e
-
--- ---- the turns of `keep`: bytes from a place on, moved to the front
-
-module _ (l k : List ℕ) (from : ℕ) (fits : from + length k ≤ length l) (same : (i : ℕ) → i < length k → get_or l (from + i) 0 ≡ get_or k i 0) where
-  -- the byte moved is still as it was
-  moved_read : (i : ℕ) → i < length k → get_or (take i k ++ drop i l) (from + i) 0 ≡ get_or k i 0
-  moved_read i h =
-      let front : length (take i k) ≡ i = length-take-le i k (omega arith) in
-      let place : from + i ≡ length (take i k) + from = omega arith in
-      let back : i + from ≡ from + i = omega arith in
-      ap (λ (n : ℕ). get_or (take i k ++ drop i l) n 0) place
-      ∙ get_or-append-add (take i k) (drop i l) from 0
-      ∙ get_or-drop i l from 0
-      ∙ ap (λ (n : ℕ). get_or l n 0) back
-      ∙ same i h
-
-  pub moved_next : (i : ℕ) → i < length k
-      → set (take i k ++ drop i l) i (get_or (take i k ++ drop i l) (from + i) 0) ≡ take (i + 1) k ++ drop (i + 1) l
-  moved_next i h =
-      let front : length (take i k) ≡ i = length-take-le i k (omega arith) in
-      ap (λ (v : ℕ). set (take i k ++ drop i l) i v) (moved_read i h)
-      ∙ ap (λ (t : List ℕ). set (take i k ++ t) i (get_or k i 0)) (drop-cons l i 0 (omega arith))
-      ∙ set_at (take i k) (get_or l i 0) (drop (suc i) l) (get_or k i 0) i front
-      ∙ sym (append_snoc (take i k) (get_or k i 0) (drop (suc i) l))
-      ∙ ap (λ (t : List ℕ). t ++ drop (suc i) l) (sym (take-suc k i 0 h))
-      ∙ ap (λ (n : ℕ). take n k ++ drop n l) (sym (add-one i))
+-- and what either says
+pub place_says :
+    (l : List ℕ) (from : ℕ) (r : Option ℕ) →
+    r ≡ newline_at l from →
+    MatchOption r (length l ≤ from + line_end (drop from l)) (λ e. (e < length l) × (e ≡ from + line_end (drop from l)))
+unfolding newline_at
+place_says l from r is =
+    elim (dec_lt (from + line_end (drop from l)) (length l)) [
+      | yes h ↦ rw (is, lt-ltb (from + line_end (drop from l)) (length l) h) (h, refl)
+      | no q ↦ rw (is, le-ltb (from + line_end (drop from l)) (length l) (omega arith)) (omega arith)
+    ]
 
 -- how many bytes are kept
 pub kept_length : (l : List ℕ) (from have : ℕ) → length (kept_of l from have) ≡ min kept_width (min have (length l) - from)
@@ -98,16 +85,26 @@ kept_same l from have i h =
     ∙ get_or-drop from (take have l) i 0
     ∙ get_or-take have l (from + i) 0 (omega arith))
 
+-- so they are the first from a place on
+pub kept_moved : (l : List ℕ) (from have s n : ℕ) → s ≡ min from (min have (length l)) → n ≡ min kept_width (min have (length l) - s)
+    → take n (drop s l) ≡ kept_of l from have
+kept_moved l from have s n is-s is-n =
+    let long : length (kept_of l from have) ≡ min kept_width (min have (length l) - from) = kept_length l from have in
+    let wide : length (take n (drop s l)) ≡ n = omega (arith, length-take n (drop s l), length-drop s l) in
+    same_number_lists (take n (drop s l)) (kept_of l from have) (omega arith)
+    (λ k h.
+    let at : s + k ≡ from + k = omega arith in
+    get_or-take n (drop s l) k 0 (omega arith)
+    ∙ get_or-drop s l k 0
+    ∙ ap (λ (i : ℕ). get_or l i 0) at
+    ∙ kept_same l from have k (omega arith))
+
 -- behind the whole lines that were answered: what `stream` keeps
 pub kept_rest : (l : List ℕ) (used have : ℕ) → used ≡ length (joined (whole (take have l))) → kept_of l used have ≡ take kept_width (rest (take have l))
 unfolding kept_of rest
 kept_rest l used have e = ap (λ (n : ℕ). take kept_width (drop n (take have l))) e
 
 -- ---- a part of a buffer that is lent from a place to the end
-
--- the part is the buffer from the place on
-pub to_end : (d : List ℕ) (at : ℕ) → take (length d - at) (drop at d) ≡ drop at d
-to_end d at = take_all (length d - at) (drop at d) (omega (arith, length-drop at d))
 
 -- bytes at the front of the part are bytes put at the place
 pub placed_buffer : (d : List ℕ) (at : ℕ) (last s : List ℕ) → last ≡ s ++ drop (length s) (drop at d)
@@ -125,15 +122,15 @@ pub placed_line : (d : List ℕ) (at i : ℕ) (last s : List ℕ) (b : ℕ) → 
     → set (take at d ++ (last ++ drop (length d - at) (drop at d))) i b ≡ put d at (s ++ (b ∷ []))
 placed_line d at i last s b e h is =
     ap (λ (k : ℕ). set (take at d ++ (last ++ drop (length d - at) (drop at d))) k b) e
-    ∙ ap (λ (t : List ℕ). set t (at + length s) b) (placed_buffer d at last s (is ∙ ap (λ (t : List ℕ). s ++ drop (length s) t) (to_end d at)))
+    ∙ ap (λ (t : List ℕ). set t (at + length s) b) (placed_buffer d at last s (is ∙ ap (λ (t : List ℕ). s ++ drop (length s) t) (take_rest d at)))
     ∙ put_more d at s b (omega arith)
 
 -- ---- one line more
 
 pub take_next : (ls : List (List ℕ)) (k : ℕ) (l : List ℕ) (ms : List (List ℕ)) → drop k ls ≡ l ∷ ms → take (suc k) ls ≡ take k ls ++ (l ∷ [])
-take_next [] zero l ms h = let z : ◌≡◌ {A = ℕ} 0 1 = cc in absurd (omega arith)
+take_next [] zero l ms h = cc
 take_next (x ∷ ls) zero l ms h = let e : x ≡ l = cc in ap (λ (m : List ℕ). m ∷ []) e
-take_next [] (suc k) l ms h = let z : ◌≡◌ {A = ℕ} 0 1 = cc in absurd (omega arith)
+take_next [] (suc k) l ms h = cc
 take_next (x ∷ ls) (suc k) l ms h = ap (λ (t : List (List ℕ)). x ∷ t) (take_next ls k l ms h)
 
 pub more_left : (ls : List (List ℕ)) (k : ℕ) (l : List ℕ) (ms : List (List ℕ)) → drop k ls ≡ l ∷ ms → k < length ls

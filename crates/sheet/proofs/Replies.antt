@@ -11,7 +11,8 @@ use lib.Dec.{lit≤}
 use Rattle.falcon_core.specs.declared.supervisor.Supervisor.{Supervisor}
 use Rattle.sheet.specs.declared.many.Progress.{Progress}
 use Rattle.columns.specs.Field.{field_width, put}
-use Rattle.columns.specs.Line.{Reading, line_of}
+use Rattle.columns.specs.Line.{line_of}
+use Rattle.std.specs.Prelude.{Option, None, Some}
 use Rattle.columns.proofs.Writing.{length_line}
 use Rattle.sheet.specs.Lines.{newline, whole, joined, rest, line_end, last_line, kept_width, lines_of, together, answers, states_after, stream}
 use Rattle.requests.specs.Kinds.{answered_by}
@@ -53,11 +54,11 @@ reading_kept l =
 
 pub after_kept : (s : Supervisor) (l : List ℕ) → after_line s l ≡ after_line s (take kept_width l)
 unfolding after_line asked_line
-after_kept s l = ap (λ (r : Reading). (answered_by s (asked_by r)).supervisor) (reading_kept l)
+after_kept s l = ap (λ (r : Option (List ℕ)). (answered_by s (asked_by r)).supervisor) (reading_kept l)
 
 pub reply_kept : (s : Supervisor) (l : List ℕ) → reply_line s l ≡ reply_line s (take kept_width l)
 unfolding reply_line asked_line
-reply_kept s l = ap (λ (r : Reading). reply_of (answered_by s (asked_by r))) (reading_kept l)
+reply_kept s l = ap (λ (r : Option (List ℕ)). reply_of (answered_by s (asked_by r))) (reading_kept l)
 
 -- an input that is read in parts, cut anywhere, has the answers of its lines
 pub in_parts : (s : Supervisor) (cs : List (List ℕ)) → stream after_line reply_line kept_width s [] cs ≡ replies s (lines_of (together cs))
@@ -78,30 +79,31 @@ last_kept s r =
 
 -- ---- what `next_fitting` answers
 
-module _ (input : List ℕ) (from room e : ℕ) (found : e ≡ from + line_end (drop from input)) where
+module _ (input : List ℕ) (from room : ℕ) where
   -- no newline is left
-  pub ends_none : length input ≤ e → EndsFitting input from room e
+  pub ends_none : length input ≤ from + line_end (drop from input) → EndsFitting input from room None
   ends_none h =
       record {
-        found = λ q. absurd (omega arith);
-        fits = λ q. absurd (omega arith);
-        none = λ q s. ap (λ (ls : List (List ℕ)). fitting_room s ls room) (line_none input from e found h) ∙ fit_none after_line reply_line need_of s room;
+        found = tt;
+        fits = tt;
+        none = λ s. ap (λ (ls : List (List ℕ)). fitting_room s ls room) (line_none input from _ refl h) ∙ fit_none after_line reply_line need_of s room;
       }
 
-  -- the line has too little room
-  pub ends_full : e < length input → room ≤ need_of (take (e - from) (drop from input)) → EndsFitting input from room (length input)
-  ends_full h full =
-      record {
-        found = λ q. absurd (omega arith);
-        fits = λ q. absurd (omega arith);
-        none = λ q s.
-            ap (λ (ls : List (List ℕ)). fitting_room s ls room) (line_at input from e found h)
-            ∙ fit_full after_line reply_line need_of s (take (e - from) (drop from input)) (whole (drop (e + 1) input)) room (omega arith);
-      }
+  module _ (e : ℕ) (h : e < length input) (found : e ≡ from + line_end (drop from input)) where
+    -- the line has too little room
+    pub ends_full : room ≤ need_of (take (e - from) (drop from input)) → EndsFitting input from room None
+    ends_full full =
+        record {
+          found = tt;
+          fits = tt;
+          none = λ s.
+              ap (λ (ls : List (List ℕ)). fitting_room s ls room) (line_at input from e found h)
+              ∙ fit_full after_line reply_line need_of s (take (e - from) (drop from input)) (whole (drop (e + 1) input)) room (omega arith);
+        }
 
-  -- it fits
-  pub ends_fitting : e < length input → need_of (take (e - from) (drop from input)) < room → EndsFitting input from room e
-  ends_fitting h fits = record { found = λ q. found; fits = λ q. omega arith; none = λ q. absurd (omega arith) }
+    -- it fits
+    pub ends_fitting : need_of (take (e - from) (drop from input)) < room → EndsFitting input from room (Some e)
+    ends_fitting fits = record { found = (h, found); fits = omega arith; none = tt }
 
 -- ---- what `answer_lines` answers, from the last turn of its loop
 

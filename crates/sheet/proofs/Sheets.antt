@@ -8,13 +8,14 @@ use lib.ListN.{length, take, drop, length-append, length-take, length-drop}
 use lib.Seq.{take_all, take-nil}
 use Rattle.falcon_core.specs.declared.supervisor.Supervisor.{Supervisor}
 use Rattle.sheet.specs.declared.many.Progress.{Progress}
+use Rattle.std.proofs.lemmas.List.{take_rest}
 use Rattle.columns.specs.Field.{put}
 use Rattle.requests.specs.ByLine.{need_of}
 use Rattle.sheet.specs.Lines.{newline, whole, joined, rest, line_end, last_line, lines_of, states_after}
 use Rattle.sheet.specs.Many.{after_line, reply_line, fitting_room, fitting, replies, progress_to, progress_of, progress_in, answers_over}
 use Rattle.sheet.proofs.LinesAgain.{joined_append, joined_rest, lines_most, whole_off, line_at, line_none}
 use Rattle.sheet.proofs.LinesCut.{answers_append, states_append}
-use Rattle.sheet.proofs.LinesTurns.{to_end, placed_buffer, more_left, none_left}
+use Rattle.sheet.proofs.LinesTurns.{placed_buffer, more_left, none_left}
 use Rattle.sheet.proofs.LinesFit.{fit_stopped, fit_whole}
 use Rattle.sheet.proofs.Replies.{fitting_prefix, written_most, read_most}
 use Rattle.columns.proofs.Writing.{put_seam}
@@ -100,7 +101,7 @@ module _ (s₀ : Supervisor) (input d b : List ℕ) (p : Progress)
     -- what is left to read
     behind : take (length input - p.used) (drop p.used input) ≡ rest input
     unfolding rest progress_of
-    behind = to_end input p.used ∙ ap (λ (k : ℕ). drop k input) (ap (λ (q : Progress). q.used) whole_progress)
+    behind = take_rest input p.used ∙ ap (λ (k : ℕ). drop k input) (ap (λ (q : Progress). q.used) whole_progress)
 
     room : length d - length (replies s₀ (whole input)) ≡ length (drop p.written b)
     room =
@@ -126,14 +127,14 @@ module _ (s₀ : Supervisor) (input d b : List ℕ) (p : Progress)
     final_progress =
         last-is
         ∙ ap (λ (t : List ℕ). last_of p.supervisor t (take (length b - p.written) (drop p.written b))) behind
-        ∙ ap (last_of p.supervisor (rest input)) (to_end b p.written)
+        ∙ ap (last_of p.supervisor (rest input)) (take_rest b p.written)
 
     final_buffer : last ≡ answers_over p.supervisor final (drop p.written b)
     unfolding final
     final_buffer =
         placed
         ∙ ap (λ (t : List ℕ). last_over p.supervisor t (take (length b - p.written) (drop p.written b))) behind
-        ∙ ap (last_over p.supervisor (rest input)) (to_end b p.written)
+        ∙ ap (last_over p.supervisor (rest input)) (take_rest b p.written)
 
     sum : p.written + q.written ≡ length (replies s₀ (fitting s₀ (lines_of input) d))
     unfolding progress_in

@@ -1,5 +1,5 @@
 -- Many lines: how bytes part into lines, and what a step for one line makes of them, whole or read in parts.
-use Rattle.std.specs.Prelude.{ℕ, zero, suc, ◌+◌, ◌-◌, ◌*◌, ◌≡◌, cond, List, [], ◌∷◌, ◌++◌, eqb, ltb, length, take, drop}
+use Rattle.std.specs.Prelude.{Option, Some, None, ℕ, zero, suc, ◌+◌, ◌-◌, ◌*◌, cond, List, [], ◌∷◌, ◌++◌, eqb, ltb, length, take, drop}
 use Rattle.std.proofs.Math.Seq.{slice}
 use Rattle.columns.specs.Field.{field_width}
 use Rattle.requests.specs.Parse.{most_fields}
@@ -40,13 +40,9 @@ unfoldable pub line_end : List ℕ → ℕ
 line_end [] = zero
 line_end (b ∷ s) = cond (eqb b newline) zero (suc (line_end s))
 
--- no newline stands from place `from` to place `to`
-abbrev pub Clear : List ℕ → ℕ → ℕ → Type 0
-Clear l from to = from + line_end (drop from l) ≡ to + line_end (drop to l)
-
--- the bytes that `find_newline` tries at once
-abbrev pub block_width : ℕ
-block_width = 16
+-- the place of the first newline from place `from` on, where there is one
+unfoldable pub newline_at : List ℕ → ℕ → Option ℕ
+newline_at l from = cond (ltb (from + line_end (drop from l)) (length l)) (Some (from + line_end (drop from l))) None
 
 -- the bytes of a line begun that are kept from one read to the next: one more than a line of any kind may have
 abbrev pub kept_width : ℕ

@@ -1,5 +1,7 @@
 -- Many lines answered into one buffer.
-use Rattle.std.specs.Prelude.{ℕ, min, ◌+◌, ◌-◌, ◌*◌, ◌≤◌, ◌<◌, ◌≡◌, List, [], ◌++◌, length, take, drop}
+use Rattle.std.specs.Prelude.{ℕ, min, ◌+◌, ◌-◌, ◌*◌, ◌≤◌, ◌<◌, ◌≡◌, List, [], ◌++◌, length, take, drop, Option, IfSome, IfNone}
+use Rattle.falcon_guidance.specs.declared.state.Point.{Point}
+use Rattle.falcon_core.specs.declared.calls.Flown.{Flown}
 use Rattle.falcon_core.specs.declared.supervisor.Supervisor.{Supervisor}
 use Rattle.sheet.specs.declared.many.Progress.{Progress}
 use Rattle.sheet.specs.Lines.{whole, joined, line_end, answers, states_after, fitting_in}
@@ -28,11 +30,15 @@ fitting_room s ls room = fitting_in after_line reply_line need_of s ls room
 unfoldable pub fitting : Supervisor → List (List ℕ) → List ℕ → List (List ℕ)
 fitting s ls out = fitting_room s ls (length out)
 
--- e is the end of the line at `from`, where a newline ends it and its answer fits so many bytes; else no line is answered there
-pub record EndsFitting (input : List ℕ) (from room e : ℕ) : Type 0 where
-  pub found : e < length input → e ≡ from + line_end (drop from input)
-  pub fits : e < length input → need_of (take (e - from) (drop from input)) + 1 ≤ room
-  pub none : length input ≤ e → (s : Supervisor) → fitting_room s (whole (drop from input)) room ≡ []
+-- the end of the line at `from`, where a newline ends it and its answer fits so many bytes; else no line is answered there
+pub record EndsFitting (input : List ℕ) (from room : ℕ) (end : Option ℕ) : Type 0 where
+  pub found : IfSome end (λ e. (e < length input) × (e ≡ from + line_end (drop from input)))
+  pub fits : IfSome end (λ e. need_of (take (e - from) (drop from input)) + 1 ≤ room)
+  pub none : IfNone end ((s : Supervisor) → fitting_room s (whole (drop from input)) room ≡ [])
+
+-- the state of what ticks, reports and commands change, and the waypoints
+abbrev pub state_of : Flown → List Point → Supervisor
+state_of w ps = record { flight = w.flight; waypoints = ps; opened = w.opened; report_due = w.report_due; totals = w.totals }
 
 -- the answers of several lines, with a newline after each
 unfoldable pub replies : Supervisor → List (List ℕ) → List ℕ

@@ -5,15 +5,16 @@ ghost use Rattle.falcon_core.specs.Supervisor.{unopened};
 ghost use Rattle.columns.specs.Field.{field_width, put};
 ghost use Rattle.columns.specs.Line.{line_of};
 ghost use Rattle.sheet.specs.Lines.{newline, whole, last_line, lines_of};
-ghost use Rattle.sheet.specs.Many.{fitting, EndsFitting, progress_of, progress_in, answers_over};
+ghost use Rattle.sheet.specs.Many.{fitting, EndsFitting, state_of, progress_of, progress_in, answers_over};
 
-use crate::entry::{answer_flight, answer_numbers, answer_other};
+use crate::entry::{answer_line, flight_step, other_step, put_answer, put_reply};
 use crate::lines::find_newline;
 use columns::field::{FIELD, write_numbers};
-use falcon_core::calls::Answer;
+use falcon_core::calls::{Answer, Flown, refused};
 use falcon_core::supervisor::Supervisor;
 use falcon_guidance::legs::{here_place, legs_from, next_place};
-use requests::kinds::Kind;
+use falcon_guidance::state::Point;
+use requests::kinds::Call;
 use requests::need::lacks_room;
 use requests::parse::{NUMBER_PLACES, asked};
 
@@ -38,95 +39,73 @@ fn write_reply(numbers: &[u32], out: &mut [u8], at: usize) -> usize
     last + 1
 }
 
-// The end of the line at `from`, where a newline ends it and its answer with a newline fits so many bytes; else the length, or more.
-fn next_fitting(input: &[u8], from: usize, room: usize) -> usize
+// The end of the line at `from`, where a newline ends it and its answer with a newline fits so many bytes.
+fn next_fitting(input: &[u8], from: usize, room: usize) -> Option<usize>
     ensures { EndsFitting input.now from room result }
 {
-    let end = find_newline(input, from);
-    if input.len() <= end {
-        return end;
-    }
+    let end = find_newline(input, from)?;
     if lacks_room(&input[from..end], room) {
-        return input.len();
+        return None;
     }
-    end
+    Some(end)
 }
 
-// Answers the lines that a newline ends, in order, as many as fit the buffer.
+// The state of its two parts. `Supervisor::with_flown` puts the first part into a whole state, and the loop has none.
+fn whole_state(flown: Flown, waypoints: [Point; Point::MAX_WAYPOINTS]) -> Supervisor
+    ensures { result ≡ state_of flown waypoints }
+{
+    Supervisor {
+        flight: flown.flight,
+        waypoints,
+        opened: flown.opened,
+        report_due: flown.report_due,
+        totals: flown.totals,
+    }
+}
+
+// Answers the lines that a newline ends, in order, as many as fit the buffer. That the input is unchanged is said at each entry, where a reader looks for it.
 pub fn answer_lines(s: Supervisor, input: &[u8], out: &mut [u8]) -> Progress
     ensures progress { result ≡ progress_of s (fitting s (whole input.now) out.old) }
     ensures buffer { out.new ≡ answers_over s (fitting s (whole input.now) out.old) out.old }
     ensures unchanged { input.exit.now ≡ input.entry.now }
 {
     let mut numbers = [0u32; NUMBER_PLACES];
-    // The state by its parts: ticks, reports and commands then copy no waypoints (docs/SPEED.md).
-    let mut flight = s.flight;
+    // The state in two parts: ticks, reports and commands then copy no waypoints (docs/SPEED.md).
+    let mut flown = s.flown();
     let mut waypoints = s.waypoints;
-    let mut opened = s.opened;
-    let mut report_due = s.report_due;
-    let mut totals = s.totals;
     let mut used = 0;
     let mut written = 0;
     let mut lines = 0;
-    let mut end = next_fitting(input, 0, out.len());
-    while end < input.len() {
-        let next = end + 1;
-        let kind = asked(&input[used..end], &mut numbers);
+    while let Some(end) = next_fitting(input, used, out.len() - written) {
         let mut count = Answer::FIELDS;
-        match kind {
-            Kind::Flight(call) => {
-                let config = flight.config;
-                let mission = flight.mission;
-                let here_at = here_place(mission);
-                let next_at = next_place(mission);
-                let here = waypoints[here_at];
-                let beyond = waypoints[next_at];
-                let legs = legs_from(config, mission, here, beyond);
-                let told = answer_flight(
-                    flight,
-                    opened,
-                    report_due,
-                    totals,
-                    legs,
-                    call,
-                    &mut numbers,
-                );
-                flight = told.flight;
-                report_due = told.report_due;
-                totals = told.totals;
+        match asked(&input[used..end], &mut numbers) {
+            Ok(Call::Flight(call)) => {
+                let config = flown.flight.config;
+                let mission = flown.flight.mission;
+                let here = waypoints[here_place(mission)];
+                let next = waypoints[next_place(mission)];
+                let told = flight_step(flown, legs_from(config, mission, here, next), call);
+                flown = told.flown;
+                put_answer(&mut numbers, told.answer);
             }
-            Kind::Other(call) => {
-                let supervisor = Supervisor {
-                    flight,
-                    waypoints,
-                    opened,
-                    report_due,
-                    totals,
-                };
-                let replied = answer_other(supervisor, call, &mut numbers);
-                let after = replied.supervisor;
-                flight = after.flight;
+            Ok(Call::Other(call)) => {
+                let answered = other_step(whole_state(flown, waypoints), call, &numbers);
+                let after = answered.supervisor;
+                flown = after.flown();
                 waypoints = after.waypoints;
-                opened = after.opened;
-                report_due = after.report_due;
-                totals = after.totals;
-                count = replied.count;
+                count = put_reply(&mut numbers, answered);
+            }
+            Err(refusal) => {
+                let answered = refused(whole_state(flown, waypoints), refusal);
+                put_answer(&mut numbers, answered.answer);
             }
         }
         written = write_reply(&numbers[..count], out, written);
-        used = next;
+        used = end + 1;
         lines += 1;
-        end = next_fitting(input, used, out.len() - written);
     }
-    let supervisor = Supervisor {
-        flight,
-        waypoints,
-        opened,
-        report_due,
-        totals,
-    };
     Progress {
-        supervisor,
+        supervisor: whole_state(flown, waypoints),
         used,
         written,
         lines,
@@ -134,11 +113,11 @@ pub fn answer_lines(s: Supervisor, input: &[u8], out: &mut [u8]) -> Progress
 }
 
 // What was answered where no line was.
-fn none_answered(s: Supervisor) -> Progress
-    ensures { result ≡ progress_of s [] }
+fn none_answered(supervisor: Supervisor) -> Progress
+    ensures { result ≡ progress_of supervisor [] }
 {
     Progress {
-        supervisor: s,
+        supervisor,
         used: 0,
         written: 0,
         lines: 0,
@@ -151,21 +130,16 @@ pub fn answer_last(s: Supervisor, input: &[u8], out: &mut [u8]) -> Progress
     ensures buffer { out.new ≡ answers_over s (fitting s (last_line input.now) out.old) out.old }
     ensures unchanged { input.exit.now ≡ input.entry.now }
 {
-    if input.len() == 0 {
-        return none_answered(s);
-    }
-    if lacks_room(input, out.len()) {
+    if input.is_empty() || lacks_room(input, out.len()) {
         return none_answered(s);
     }
     let mut numbers = [0u32; NUMBER_PLACES];
-    let replied = answer_numbers(s, input, &mut numbers);
-    let count = replied.count;
-    let written = write_reply(&numbers[..count], out, 0);
-    let supervisor = replied.supervisor;
+    let answered = answer_line(s, input, &mut numbers);
+    let count = put_reply(&mut numbers, answered);
     Progress {
-        supervisor,
+        supervisor: answered.supervisor,
         used: input.len(),
-        written,
+        written: write_reply(&numbers[..count], out, 0),
         lines: 1,
     }
 }
@@ -176,20 +150,17 @@ pub fn answer_sheet(input: &[u8], out: &mut [u8]) -> Progress
     ensures buffer { out.new ≡ answers_over unopened (fitting unopened (lines_of input.now) out.old) out.old }
     ensures unchanged { input.exit.now ≡ input.entry.now }
 {
-    let s = Supervisor::new();
-    let progress = answer_lines(s, input, out);
-    let supervisor = progress.supervisor;
-    let used = progress.used;
-    let written = progress.written;
-    if find_newline(input, used) < input.len() {
-        return progress;
+    let whole = answer_lines(Supervisor::new(), input, out);
+    let used = whole.used;
+    let written = whole.written;
+    if find_newline(input, used).is_some() {
+        return whole;
     }
-    let last = answer_last(supervisor, &input[used..], &mut out[written..]);
-    let after = last.supervisor;
+    let last = answer_last(whole.supervisor, &input[used..], &mut out[written..]);
     Progress {
-        supervisor: after,
+        supervisor: last.supervisor,
         used: used + last.used,
         written: written + last.written,
-        lines: progress.lines + last.lines,
+        lines: whole.lines + last.lines,
     }
 }

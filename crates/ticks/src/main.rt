@@ -26,28 +26,23 @@ const NORTH: [f32; NORTH_PLACES as usize] = [
 
 const EAST: [f32; EAST_PLACES as usize] = [0.0, 0.5, 1.0, 6.5, 7.0, 7.5, -2.0, -1.0];
 
-// The sum so far, which wraps at 2^32, with one more number.
-fn added(sum: u64, n: u32) -> u64 {
-    sum % 4_294_967_296 + n as u64
-}
-
-// The sum with the numbers of an answer.
-fn summed(sum: u64, answer: TickAnswer) -> u64 {
+// The sum with the numbers of an answer. It wraps.
+fn summed(sum: u32, answer: TickAnswer) -> u32 {
     match answer {
-        TickAnswer::MotorsOff => added(sum, 1),
+        TickAnswer::MotorsOff => sum.wrapping_add(1),
         TickAnswer::Setpoint {
             ned,
             landing,
             rearm,
         } => {
-            let mut s = added(sum, to_bits(ned.x));
-            s = added(s, to_bits(ned.y));
-            s = added(s, to_bits(ned.z));
+            let mut s = sum.wrapping_add(to_bits(ned.x));
+            s = s.wrapping_add(to_bits(ned.y));
+            s = s.wrapping_add(to_bits(ned.z));
             if landing {
-                s = added(s, 2);
+                s = s.wrapping_add(2);
             }
             if rearm {
-                s = added(s, 4);
+                s = s.wrapping_add(4);
             }
             s
         }
@@ -75,42 +70,29 @@ fn tick_at(i: u32) -> Tick {
     }
 }
 
-// The flight and the sum after some ticks.
-#[derive(Clone, Copy)]
-struct Flown {
-    supervisor: Supervisor,
-    sum: u64,
-}
-
-fn fly(begun: Supervisor, sum: u64) -> Flown {
+// The flight and the sum after the ticks of a part.
+fn fly(begun: Supervisor, sum: u32) -> (Supervisor, u32) {
     let config = begun.flight.config;
     let waypoints = begun.waypoints;
     let mut flight = begun.flight;
     let mut s = sum;
-    let mut i = 0;
-    while i < PART {
-        let mission = flight.mission;
-        let ticked = tick(flight, legs(config, waypoints, mission), tick_at(i));
+    for i in 0..PART {
+        let legs = legs(config, waypoints, flight.mission);
+        let ticked = tick(flight, legs, tick_at(i));
         flight = ticked.flight;
-        let answer = ticked.answer;
-        s = summed(s, answer);
-        i += 1;
+        s = summed(s, ticked.answer);
     }
-    let mut supervisor = begun;
-    supervisor.flight = flight;
-    Flown { supervisor, sum: s }
+    (Supervisor { flight, ..begun }, s)
 }
 
 // The state after a command.
 fn commanded(s: Supervisor, ev: Event) -> Supervisor {
-    let answered = s.command(ev, true, true);
-    answered.supervisor
+    s.command(ev, true, true).supervisor
 }
 
 // Opened, with two points and a zone, armed and taking off.
 fn started() -> Supervisor {
-    let s = Supervisor::new();
-    let opened = s.opening(Opening {
+    let opened = Supervisor::new().opening(Opening {
         home: Point::origin(),
         fence_radius: 100.0,
         cruise_alt: 10.0,
@@ -120,31 +102,24 @@ fn started() -> Supervisor {
         calibration_configured: true,
     });
     let points = [15.0f32, 1.0, -10.0, 0.0, 7.5, -10.0];
-    let s = opened.supervisor;
-    let listed = s.set_mission_waypoints(&points);
+    let listed = opened.supervisor.set_mission_waypoints(&points);
     let zone = [9.0f32, 3.0, 0.0, 2.0];
-    let s = listed.supervisor;
-    let zoned = s.set_keepout_zones(&zone);
-    let s = zoned.supervisor;
-    commanded(commanded(s, Event::Arm), Event::RequestTakeoff)
+    let zoned = listed.supervisor.set_keepout_zones(&zone);
+    let armed = commanded(zoned.supervisor, Event::Arm);
+    commanded(armed, Event::RequestTakeoff)
 }
 
-fn day(sum: u64) -> u64 {
-    let out = fly(started(), sum);
-    let s = out.supervisor;
-    let toured = fly(commanded(s, Event::RequestMission), out.sum);
-    let s = toured.supervisor;
-    let back = fly(commanded(s, Event::RequestRtl), toured.sum);
-    back.sum
+fn day(sum: u32) -> u32 {
+    let (s, sum) = fly(started(), sum);
+    let (s, sum) = fly(commanded(s, Event::RequestMission), sum);
+    let (_, sum) = fly(commanded(s, Event::RequestRtl), sum);
+    sum
 }
 
 fn main(rt: HostRuntime) {
     let mut sum = 0;
-    let mut days = 0;
-    while days < DAYS {
+    for _ in 0..DAYS {
         sum = day(sum);
-        days += 1;
     }
-    let rest = sum % 4_294_967_296;
-    println!(rt; "{rest}").is_ok();
+    println!(rt; "{sum}").is_ok();
 }

@@ -1,12 +1,22 @@
-use mathlib.Core.Path.{refl, ◌∙◌}
-use lib.Dec.{lit≤}
-use Rattle.daysheet.proofs.Reading.{reads_none, reads_more}
+use Rattle.std.proofs.Common.{arith, refl}
+use Rattle.sheet.proofs.LinesTurns.{kept_length}
+use Rattle.daysheet.proofs.Reading.{turn_part, reads_none, reads_more}
 use Rattle.daysheet.proofs.read_all.Goals as goal
 
-pub loop-turns-init : goal.loop-turns-init
-loop-turns-init c = (lit≤ tt, (reads_none _ _ c.new.ensures refl, (refl, refl)))
+pub loop-init : goal.loop-init
+loop-init c = record { short = omega arith; reads = reads_none _ _ c.new.ensures refl }
 
-pub loop-turns-preserved : goal.loop-turns-preserved
-loop-turns-preserved c = let call = c.turn-kept in
-    let inv = c.loop-turns.invariant in
-    (call.ensures.have_le_kept_width, (reads_more _ _ _ _ inv.1.0 call.ensures.reads_part, (call.auto.buf ∙ inv.1.1.0, call.auto.out ∙ inv.1.1.1)))
+pub loop-preserved : goal.loop-preserved
+loop-preserved c =
+    let l = c.loop in
+    let buf = c.fill.new.buf in
+    let end = c.in_ok-end.end in
+    let drained = c.in_ok-drained in
+    let kept = c.keep.ensures in
+    record {
+      short = omega (arith, kept.value, kept_length buf drained.drained.used end);
+      reads =
+          reads_more _ _ _ _ l.invariant.reads
+          (turn_part l.begun.0 l.buf buf l.begun.1.0 end c.in_ok-end.ensures.end.0 c.in_ok-end.ensures.buf_unchanged
+          drained.drained.supervisor drained.drained.used c.keep.result _ drained.ensures.supervisor drained.ensures.used kept.value kept.buf_after);
+    }

@@ -1,12 +1,11 @@
-use Prim.Native.Nat.{◌≤◌}
-use mathlib.Core.Path.{◌≡◌}
-use lib.ListN.{length, take}
+-- Here `begun` is taken apart: the state, and how many bytes are at hand.
+use Rattle.std.proofs.Common.{◌≤◌, take}
 use Rattle.sheet.specs.Lines.{kept_width}
 use Rattle.daysheet.specs.Reader.{ReadsAll}
 use Rattle.daysheet.proofs.read_all.Given as goal
 
-abbrev pub invariant-loop-turns : goal.invariant-loop-turns
-invariant-loop-turns l = (l.kept.have ≤ kept_width) × (ReadsAll l.kept.supervisor (take l.kept.have l.buf) × ((length l.buf ≡ length l.fn.buf) × (length l.out ≡ length l.fn.out)))
-
-abbrev pub decreases-loop-turns : goal.decreases-loop-turns
-decreases-loop-turns l = l.turns
+abbrev pub invariant-loop : goal.invariant-loop
+invariant-loop l = record {
+  short : l.begun.1.0 ≤ kept_width;
+  reads : ReadsAll l.begun.0 (take l.begun.1.0 l.buf);
+}

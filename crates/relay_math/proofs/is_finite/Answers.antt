@@ -1,9 +1,7 @@
--- `is_finite` is the library's `finite`: below infinity and above minus infinity.
-use Rattle.relay_math.proofs.Small.{finite_below, finite_not_below}
+-- `is_finite` of std is the logic's `finite`.
+use Rattle.std.proofs.Common.{◌∙◌}
+use Rattle.relay_math.proofs.Small.{finite_is}
 use Rattle.relay_math.proofs.is_finite.Goals as goal
 
-pub returns-then-x-inf : goal.returns-then-x-inf
-returns-then-x-inf c = finite_below c.args.x c.if-x-inf.true
-
 pub returns : goal.returns
-returns c = finite_not_below c.args.x c.if-x-inf.false
+returns c = c.is_finite.ensures.value ∙ finite_is c.args.x

@@ -1,10 +1,7 @@
--- `to_bits` is the library's `to_bits`, which writes NaN as 7FC00000.
+-- `to_bits` is the logic's `to_bits`, which writes NaN as 7FC00000.
 use mathlib.Core.Path.{sym, ◌∙◌}
-use Rattle.relay_math.proofs.Small.{ne_self, nan_written}
+use Rattle.relay_math.proofs.Small.{nan_written}
 use Rattle.relay_math.proofs.to_bits.Goals as goal
 
-pub returns-then-x : goal.returns-then-x
-returns-then-x c = nan_written c.args.x (sym (ne_self c.args.x) ∙ c.if-x.true)
-
-pub float_to_bits-result : goal.float_to_bits-result
-float_to_bits-result c = rw (sym (ne_self c.args.x) ∙ c.if-x.false) tt
+pub returns-then-is_nan : goal.returns-then-is_nan
+returns-then-is_nan c = nan_written c.args.x (sym c.is_nan.ensures.value ∙ c.if-is_nan.true)

@@ -1,23 +1,11 @@
-use Prim.Native.Nat.{◌≤◌}
-use lib.ListN.{length}
-use native.Mathlib.Omega.{arith}
-use mathlib.Core.Path.{sym}
-use lib.Seq.{length-take-le}
+use Rattle.std.proofs.Common.{arith}
 use borrow.Author.Tests.{eqb-true}
 use Rattle.sheet.proofs.Replies.{within_written}
 use Rattle.sheet.proofs.Sheets.{all_answered}
-use Rattle.rows.proofs.write_answers.Goals.{After-answer_sheet-progress}
 use Rattle.rows.proofs.write_answers.Goals as goal
 
--- the answers are within the buffer
-within : (c : After-answer_sheet-progress) → c.answer_sheet-progress.result.written ≤ length c.answer_sheet-progress.new.out
-within c = let call = c.answer_sheet-progress in omega (arith, call.auto.out, within_written _ _ _ _ call.result call.ensures.progress)
-
-pub slice_bounds-print-end : goal.slice_bounds-print-end
-slice_bounds-print-end c = within (goal.at.slice_bounds-print-end c).After-answer_sheet-progress
-
-pub slice_bounds-print-end-2 : goal.slice_bounds-print-end-2
-slice_bounds-print-end-2 c = sym (length-take-le _ _ (within (goal.at.slice_bounds-print-end-2 c).After-answer_sheet-progress))
+pub shared_ref_as_front-print : goal.shared_ref_as_front-print
+shared_ref_as_front-print c = let call = c.answer_sheet-progress in omega (arith, within_written _ _ _ _ call.result call.ensures.progress)
 
 pub returns : goal.returns
 returns c =

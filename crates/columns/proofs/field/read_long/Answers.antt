@@ -1,25 +1,15 @@
--- `read_long` reads nine or ten digits at once, and leaves any other field to `read_plain`.
+-- `read_long` reads nine or ten digits at once.
+use Rattle.std.proofs.Common.{◌≡◌, ℕ, ◌-◌, length, drop, sym, ap, ◌∙◌, arith}
+use Rattle.columns.specs.Field.{digits}
 use Rattle.columns.proofs.Words.{field_long}
 use Rattle.columns.proofs.field.read_long.Goals as goal
 
-pub read_plain-requires : goal.read_plain-requires
-read_plain-requires c = c.requires
-
-pub returns-then-line-at-ne32 : goal.returns-then-line-at-ne32
-returns-then-line-at-ne32 c = c.read_plain.ensures
-
-pub read_plain-requires-then-high-ge100 : goal.read_plain-requires-then-high-ge100
-read_plain-requires-then-high-ge100 c = c.requires
-
-pub returns-then-high-ge100 : goal.returns-then-high-ge100
-returns-then-high-ge100 c = c.read_plain-then-high-ge100.ensures
-
-pub read_plain-requires-then-low-ge-NUMBER_LIMIT : goal.read_plain-requires-then-low-ge-NUMBER_LIMIT
-read_plain-requires-then-low-ge-NUMBER_LIMIT c = c.requires
-
-pub returns-then-low-ge-NUMBER_LIMIT : goal.returns-then-low-ge-NUMBER_LIMIT
-returns-then-low-ge-NUMBER_LIMIT c = c.read_plain-then-low-ge-NUMBER_LIMIT.ensures
-
 pub returns : goal.returns
-returns c = field_long c.args.line.now c.args.at c.requires c.lead-high.result c.read_eight-low.result c.if-line-at-ne32.false
-    (c.lead-high.ensures c.if-high-ge100.false) (c.read_eight-low.ensures c.if-low-ge-NUMBER_LIMIT.false)
+returns c =
+    let high = c.in_ok-high.ensures in
+    let low = c.in_ok-low.ensures in
+    let l = c.args.field.now in
+    let part = c.in_ok-last_chunk.ensures.cases in
+    let e : 3 ≡ length l - 8 = omega (arith, c.told-field) in
+    field_long l c.told-field c.in_ok-high.high c.in_ok-low.low c.if-field-ne32.false high.1
+    (ap (λ (k : ℕ). digits 0 (drop k l)) e ∙ ap (digits 0) (sym part.1.same) ∙ low.1)

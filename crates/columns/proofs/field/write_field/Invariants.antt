@@ -2,8 +2,5 @@
 use Rattle.columns.proofs.Writing.{Partly}
 use Rattle.columns.proofs.field.write_field.Given as goal
 
-abbrev pub invariant-loop-rest : goal.invariant-loop-rest
-invariant-loop-rest l = Partly l.initial.out l.out l.at l.n l.i l.rest
-
-abbrev pub decreases-loop-rest : goal.decreases-loop-rest
-decreases-loop-rest l = l.rest
+abbrev pub invariant-loop-at : goal.invariant-loop-at
+invariant-loop-at l = Partly l.field l.n l.at-index l.rest

@@ -10,7 +10,7 @@ use Rattle.relay_math.proofs.root.radicand_of.Goals.{Else-b-ge8388608}
 use Rattle.relay_math.proofs.root.radicand_of.Goals as goal
 
 pub returns-then-b-ge8388608 : goal.returns-then-b-ge8388608
-returns-then-b-ge8388608 c = (omega arith, omega arith, omega arith, omega arith, value_normal c.args.b c.if-b-ge8388608.true c.requires.1)
+returns-then-b-ge8388608 c = rw (c.from.ensures, c.from-then-b-ge8388608.ensures) (omega arith, omega arith, omega arith, omega arith, value_normal c.args.b c.if-b-ge8388608.true c.requires.1)
 
 -- a subnormal pattern and its leading zeros
 at : (c : Else-b-ge8388608) → (9 ≤ count_leading_zeros 32 c.args.b) × (count_leading_zeros 32 c.args.b ≤ 31)
@@ -23,18 +23,9 @@ shifted a h = mod-eq_of_lt (lt_of_lt_of_le h (lit≤ tt))
 pub overflow_sub-k : goal.overflow_sub-k
 overflow_sub-k c = omega (arith, (at (goal.at.overflow_sub-k c).Else-b-ge8388608).0)
 
-pub overflow_shl-result : goal.overflow_shl-result
-overflow_shl-result c = omega (arith, (at (goal.at.overflow_shl-result c).Else-b-ge8388608).1)
-
-pub overflow_cast-result-3 : goal.overflow_cast-result-3
-overflow_cast-result-3 c = omega (arith, (at (goal.at.overflow_cast-result-3 c).Else-b-ge8388608).1)
-
-pub overflow_sub-result : goal.overflow_sub-result
-overflow_sub-result c = omega (arith, (at (goal.at.overflow_sub-result c).Else-b-ge8388608).1)
-
 pub returns : goal.returns
 returns c = let b = c.args.b in
     let z = count_leading_zeros 32 b in
     let a = at (goal.at.returns c).Else-b-ge8388608 in
     let e : (b * 2 ^ (z - 8)) % 2 ^ 32 ≡ b * 2 ^ (z - 8) = shifted (b * 2 ^ (z - 8)) a.3 in
-    rw e (a.2, a.3, omega (arith, a.1), omega (arith, a.0), value_subnormal b (z - 8) c.if-b-ge8388608.false (omega (arith, a.1)))
+    rw (c.from-2.ensures, c.from-3.ensures, e) (a.2, a.3, omega (arith, a.1), omega (arith, a.0), value_subnormal b (z - 8) c.if-b-ge8388608.false (omega (arith, a.1)))

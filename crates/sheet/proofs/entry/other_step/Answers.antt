@@ -1,31 +1,32 @@
-use native.Mathlib.Omega.{arith}
-use mathlib.Core.Path.{subst}
+-- Points and zones are the floats of a line.
+use Rattle.std.proofs.Common.{◌∙◌, ◌*◌, ◌-◌, ap, sym, ℕ, List, take, drop}
+use Rattle.std.specs.Prelude.{Float}
+use Rattle.std.specs.Float.{binary32}
+use Rattle.std.specs.Float.Ieee.{of_bits}
+use Rattle.columns.specs.Line.{number_at}
+use Rattle.falcon_guidance.specs.State.{point_numbers_of, zone_numbers_of}
+use Rattle.falcon_core.specs.Calls.{plans, points, zones, step_of}
 use Rattle.requests.specs.declared.kinds.OtherCall.{OtherCall}
-use Rattle.requests.specs.Kinds.{Listed}
+use Rattle.requests.specs.Kinds.{list_head, other_asks}
+use Rattle.sheet.proofs.Floats.{lent_is}
 use Rattle.sheet.proofs.entry.other_step.Goals as goal
 
-pub points_step-requires : goal.points_step-requires
-points_step-requires c = let pre = c.requires in
-    (subst (λ (k : OtherCall). Listed k c.args.numbers.now) c.in-Points.is pre.0, omega (arith, pre.1))
-
-pub zones_step-requires : goal.zones_step-requires
-zones_step-requires c = let pre = c.requires in
-    (subst (λ (k : OtherCall). Listed k c.args.numbers.now) c.in-Zones.is pre.0, omega (arith, pre.1))
-
-pub returns-in-Refused : goal.returns-in-Refused
-returns-in-Refused c = simp (c.refused.ensures, c.in-Refused.is)
-
-pub returns-in-Opens : goal.returns-in-Opens
-returns-in-Opens c = simp (c.opening.ensures, c.in-Opens.is)
-
 pub returns-in-Points : goal.returns-in-Points
-returns-in-Points c = simp (c.points_step.ensures, c.in-Points.is)
+returns-in-Points c = let a = c.args in
+    let ns = a.numbers.now in
+    let fs = c.floats_of-floats.result in
+    let step = λ (l : List Float). step_of a.s (plans (points l)) in
+    c.set_mission_waypoints.ensures.answered
+    ∙ ap (λ (end : ℕ). step (take (end - list_head) (drop list_head fs))) c.list_end-end.ensures
+    ∙ ap step (lent_is (of_bits binary32) ns (point_numbers_of * number_at ns 1) fs c.floats_of-floats.ensures)
+    ∙ ap (λ (k : OtherCall). step_of a.s (other_asks ns k)) (sym c.in-Points.is)
 
 pub returns-in-Zones : goal.returns-in-Zones
-returns-in-Zones c = simp (c.zones_step.ensures, c.in-Zones.is)
-
-pub returns-in-Totals : goal.returns-in-Totals
-returns-in-Totals c = simp (c.totals.ensures, c.in-Totals.is)
-
-pub returns-in-Saves : goal.returns-in-Saves
-returns-in-Saves c = simp (c.save.ensures, c.in-Saves.is)
+returns-in-Zones c = let a = c.args in
+    let ns = a.numbers.now in
+    let fs = c.floats_of-floats-in-Zones.result in
+    let step = λ (l : List Float). step_of a.s (plans (zones l)) in
+    c.set_keepout_zones.ensures.answered
+    ∙ ap (λ (end : ℕ). step (take (end - list_head) (drop list_head fs))) c.list_end-end-in-Zones.ensures
+    ∙ ap step (lent_is (of_bits binary32) ns (zone_numbers_of * number_at ns 1) fs c.floats_of-floats-in-Zones.ensures)
+    ∙ ap (λ (k : OtherCall). step_of a.s (other_asks ns k)) (sym c.in-Zones.is)

@@ -1,20 +1,29 @@
--- `find_newline` passes the blocks that are clear.
-use native.Mathlib.Omega.{arith}
-use mathlib.Core.Path.{refl, sym, ◌∙◌}
-use Rattle.sheet.proofs.LinesTurns.{end_past}
+-- The blocks passed have no newline, and then the first one is looked for.
+use Rattle.std.proofs.Common.{arith, ap, sym, ◌∙◌, ◌≡◌, ◌<◌, ◌+◌, length, nat_eq, List, ℕ}
+use Rattle.std.specs.List.{list_any}
+use Rattle.sheet.specs.Lines.{newline, line_end}
+use Rattle.sheet.proofs.LinesTurns.{block_passed, place_found, place_none, place_is, no_place}
 use Rattle.sheet.proofs.lines.find_newline.Goals as goal
 
-pub returns-then-input-from : goal.returns-then-input-from
-returns-then-input-from c = end_past _ _ (omega arith)
+pub loop-block-preserved : goal.loop-block-preserved
+loop-block-preserved c =
+    let l = c.loop-block.behind.now in
+    let h = c.in-Some.ensures.cases in
+    let none = ap (list_any (λ b. nat_eq b newline)) (sym h.0) ∙ sym c.contains.ensures.value ∙ c.if-contains.false in
+    let passed : line_end l ≡ 16 + line_end c.in-Some.rest.now = block_passed l 16 none (omega arith) ∙ ap (λ (r : List ℕ). 16 + line_end r) (sym h.1) in
+    omega arith
 
-pub loop-i-init : goal.loop-i-init
-loop-i-init c = (c.if-input-from.false, refl)
+pub returns-in_err-behind : goal.returns-in_err-behind
+returns-in_err-behind c = c.from_residual.ensures ∙ no_place c.args.input.now c.args.from (omega (arith, c.in_err-behind.ensures.lookup))
 
-pub returns-then-has_newline : goal.returns-then-has_newline
-returns-then-has_newline c = c.next_newline.ensures ∙ sym c.loop-i.invariant.1
-
-pub loop-i-preserved : goal.loop-i-preserved
-loop-i-preserved c = (omega arith, c.loop-i.invariant.1 ∙ c.has_newline.ensures c.if-has_newline.false)
+pub returns-in_err-place : goal.returns-in_err-place
+returns-in_err-place c =
+    let none = place_none c.loop-block.behind.now (sym c.next_newline.ensures ∙ c.in_err-place.was) in
+    c.from_residual-in_err-place.ensures ∙ no_place c.args.input.now c.args.from (omega arith)
 
 pub returns : goal.returns
-returns c = c.next_newline-2.ensures ∙ sym c.loop-i.invariant.1
+returns c =
+    let l = c.loop-block.behind.now in
+    let k = c.in_ok-place.place in
+    let found : (k < length l) × (line_end l ≡ k) = place_found l k (sym c.next_newline.ensures ∙ c.in_ok-place.was) in
+    place_is c.args.input.now c.args.from _ (omega arith) (omega arith)

@@ -1,11 +1,12 @@
--- `find_newline` passes the blocks that are clear.
-use Prim.Native.Nat.{◌-◌, ◌≤◌}
-use lib.ListN.{length}
-use Rattle.sheet.specs.Lines.{Clear}
+-- The bytes passed have no newline.
+use Rattle.std.proofs.Common.{◌≡◌, ◌+◌, ◌-◌, ◌≤◌, length, drop}
+use Rattle.sheet.specs.Lines.{line_end}
 use Rattle.sheet.proofs.lines.find_newline.Given as goal
 
-abbrev pub invariant-loop-i : goal.invariant-loop-i
-invariant-loop-i l = (l.i ≤ length l.input) × Clear l.input l.from l.i
+abbrev pub invariant-loop-block : goal.invariant-loop-block
+invariant-loop-block l =
+    (length l.behind ≤ length l.input)
+    × (l.from + line_end (drop l.from l.input) ≡ length l.input - length l.behind + line_end l.behind)
 
-abbrev pub decreases-loop-i : goal.decreases-loop-i
-decreases-loop-i l = length l.input - l.i
+abbrev pub decreases-loop-block : goal.decreases-loop-block
+decreases-loop-block l = length l.behind

@@ -1,42 +1,21 @@
--- `keep` moves a byte a turn.
-use Prim.Native.Nat.{ℕ, min, ◌+◌, ◌-◌}
-use native.Mathlib.Omega.{arith}
-use mathlib.Core.Path.{◌≡◌, refl, ap, ◌∙◌}
-use mathlib.Core.List.{List, ◌++◌}
-use lib.ListN.{length, get_or, set, take, drop, length-set}
-use lib.Seq.{take-length}
-use Rattle.sheet.specs.Lines.{kept_width, kept_of}
-use Rattle.sheet.proofs.LinesTurns.{moved_next, kept_length, kept_same}
+-- What is moved is what is kept.
+use Rattle.std.proofs.Common.{arith, zero-add, ap, ◌∙◌, ◌≡◌, ◌++◌, ℕ, List, length, take, drop, ◌-◌, ◌+◌}
+use Rattle.sheet.specs.Lines.{kept_of}
+use Rattle.sheet.proofs.LinesTurns.{kept_length, kept_moved}
 use Rattle.sheet.proofs.lines.keep.Goals as goal
 
-pub loop-i-init : goal.loop-i-init
-loop-i-init c = (omega arith, (refl, omega arith))
+pub returns-clause-value : goal.returns-clause-value
+returns-clause-value c = omega (arith, kept_length c.args.buf.now c.args.from c.args.have)
 
-pub loop-i-preserved : goal.loop-i-preserved
-loop-i-preserved c = let a = c.args in
-    let l = c.loop-i in
-    let b = a.buf.now in
-    let k = kept_of b a.from a.have in
-    let long : length k ≡ min kept_width (min a.have (length b) - a.from) = kept_length b a.from a.have in (
-      omega arith,
-      (
-        ap (λ (t : List ℕ). set t l.i (get_or t (a.from + l.i) 0)) l.invariant.1.0
-            ∙ moved_next b k a.from (omega arith) (kept_same b a.from a.have) l.i (omega arith),
-        simp length-set l.invariant.1.1,
-      ),
-    )
-
-pub returns : goal.returns
-returns c = let a = c.args in
-    let l = c.loop-i in
-    let b = a.buf.now in
-    let k = kept_of b a.from a.have in
-    let long : length k ≡ min kept_width (min a.have (length b) - a.from) = kept_length b a.from a.have in
-    let end : l.i ≡ length k = omega arith in
-    record {
-      value = omega arith;
-      buf_after =
-          l.invariant.1.0
-          ∙ ap (λ (n : ℕ). take n k ++ drop n b) end
-          ∙ ap (λ (t : List ℕ). t ++ drop (length k) b) (take-length k);
-    }
+pub returns-clause-buf_after : goal.returns-clause-buf_after
+returns-clause-buf_after c =
+    let b = c.args.buf.now in
+    let s = c.min-start.result in
+    let n = c.min-n.result in
+    let long : n ≡ length (kept_of b c.args.from c.args.have) = omega (arith, kept_length b c.args.from c.args.have) in
+    let width : s + n - s ≡ n = omega arith in
+    c.copy_within.ensures.after
+    ∙ ap (λ (k : ℕ). take k (drop s b) ++ drop (0 + k) b) width
+    ∙ ap (λ (k : ℕ). take n (drop s b) ++ drop k b) (zero-add n)
+    ∙ ap (λ (t : List ℕ). t ++ drop n b) (kept_moved b c.args.from c.args.have s n (omega arith) (omega arith))
+    ∙ ap (λ (k : ℕ). kept_of b c.args.from c.args.have ++ drop k b) long

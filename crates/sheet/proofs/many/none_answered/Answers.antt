@@ -1,4 +1,4 @@
-use mathlib.Core.Path.{refl}
+use Rattle.std.proofs.Common.{refl}
 use Rattle.sheet.specs.Lines.{joined, answers, states_after}
 use Rattle.sheet.specs.Many.{replies, progress_of}
 use Rattle.sheet.proofs.many.none_answered.Goals as goal

@@ -1,4 +1,0 @@
-use Rattle.exports.proofs.floats.bartsemmo_sanitize.Goals as goal
-
-pub returns : goal.returns
-returns c = simp (c.to_bits.ensures, c.sanitize.ensures, c.from_bits-4.ensures, c.from_bits-3.ensures, c.from_bits-2.ensures, c.from_bits.ensures)
