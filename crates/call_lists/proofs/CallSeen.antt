@@ -1,39 +1,23 @@
--- A call is refused and keeps the state, or it is accepted for what it asks. Assumes nothing.
+-- A call is refused and keeps the state, or it is accepted for what it asks.
 use Prim.Native.Nat.{ℕ}
 use mathlib.Core.Bool.{Bool, true, false, cond}
 use mathlib.Core.List.{List}
 use mathlib.Core.Path.{◌≡◌, refl}
-use lib.Dec.{eqb, ltb}
+use lib.Dec.{ltb}
 use lib.ListN.{length}
-use Rattle.std.specs.Prelude.{Option, Some, None, Result, Ok, Err, is_ok}
+use Rattle.std.specs.Prelude.{Option, Some, None, Ok, Err}
 use Rattle.std.specs.Result.{result_ok}
 use Rattle.falcon_core.specs.declared.supervisor.Supervisor.{Supervisor}
-use Rattle.falcon_core.specs.declared.calls.Answered.{Answered}
+use Rattle.falcon_core.specs.declared.supervisor.Answered.{Answered}
 use Rattle.falcon_core.specs.declared.refusal.Refusal.{Refusal}
-use Rattle.falcon_core.specs.declared.refusal.Refusal.TheVariants.{ShortBuffer, NotALine, UnknownKind, WrongCount, OutOfRange, NoOpening, ReportDue, NoReportDue, Inadmissible}
-use Rattle.falcon_core.specs.Refusals.{outcome_number}
-use Rattle.falcon_core.specs.Calls.{Request, plans, saves, refusal_of, legs_in, after_of, output_of, answer_of, refused_of, accepted_of, step_of}
+use Rattle.falcon_core.specs.declared.refusal.Refusal.TheVariants.{ShortBuffer}
+use Rattle.falcon_core.specs.Calls.{Request, plans, saves, refusal_of, legs_in, after_of, output_of, refused_of, accepted_of, step_of}
+use Rattle.falcon_core.specs.Answer.{answer_of}
 use Rattle.falcon_core.proofs.Answers.{step_refused, step_accepted}
 use Rattle.falcon_record.specs.Saved.{record_room, save_step}
-use Rattle.requests.specs.Kinds.{Asked, answered_by}
+use Rattle.requests.specs.Kinds.{Asked, asked_step}
 use Rattle.requests.specs.ByLine.{line_step}
-use Rattle.call_lists.specs.Lists.{Call, by_values, by_line, by_array, asked_of, call_step, accepted, accepted_request}
-
--- "Accepted means that the refusal answered is 0."
-accepted_number : {T : Type 0} (o : Result T Refusal) → eqb (outcome_number o) 0 ≡ is_ok o
-accepted_number (Ok x) = refl
-accepted_number (Err ShortBuffer) = refl
-accepted_number (Err NotALine) = refl
-accepted_number (Err UnknownKind) = refl
-accepted_number (Err WrongCount) = refl
-accepted_number (Err OutOfRange) = refl
-accepted_number (Err NoOpening) = refl
-accepted_number (Err ReportDue) = refl
-accepted_number (Err NoReportDue) = refl
-accepted_number (Err Inadmissible) = refl
-
-pub accepted_zero : (a : Answered) → eqb (outcome_number a.answer.outcome) 0 ≡ accepted a
-accepted_zero a = accepted_number a.answer.outcome
+use Rattle.call_lists.specs.Lists.{Call, by_values, by_line, by_array, call_asks, call_step, accepted, accepted_request}
 
 -- the answer to a call, and what it accepted
 pub data Seen (s : Supervisor) : Answered → Option Request → Type 0 where
@@ -45,22 +29,22 @@ unfolding refused_of accepted_of answer_of
 seen_by s r None e = rw (step_accepted s r e) (accepts r e)
 seen_by s r (Some n) e = rw (step_refused s r n e) (refused n)
 
-seen_asked : (s : Supervisor) (k : Asked) → Seen s (answered_by s k) (cond (accepted (answered_by s k)) (result_ok k) None)
+seen_asked : (s : Supervisor) (k : Asked) → Seen s (asked_step s k) (cond (accepted (asked_step s k)) (result_ok k) None)
 unfolding refused_of answer_of
 seen_asked s (Err e) = refused e
 seen_asked s (Ok r) = seen_by s r (refusal_of s r) refl
 
 -- the state by values, with its array, is the call that it asks
-pub save_asked : (s : Supervisor) (a : List ℕ) → save_step s a ≡ answered_by s (asked_of (by_array a))
+pub save_asked : (s : Supervisor) (a : List ℕ) → save_step s a ≡ asked_step s (call_asks (by_array a))
 unfolding save_step
 save_asked s a = go (ltb (length a) record_room)
   where
-    go : (b : Bool) → cond b (refused_of s ShortBuffer) (step_of s (plans saves)) ≡ answered_by s (cond b (Err ShortBuffer) (Ok (plans saves)))
+    go : (b : Bool) → cond b (refused_of s ShortBuffer) (step_of s (plans saves)) ≡ asked_step s (cond b (Err ShortBuffer) (Ok (plans saves)))
     go true = refl
     go false = refl
 
 pub seen : (s : Supervisor) (c : Call) → Seen s (call_step s c) (accepted_request s c)
 unfolding call_step accepted_request line_step
 seen s (by_values r) = seen_asked s (Ok r)
-seen s (by_line line out) = seen_asked s (asked_of (by_line line out))
-seen s (by_array a) = rw (save_asked s a) (seen_asked s (asked_of (by_array a)))
+seen s (by_line line out) = seen_asked s (call_asks (by_line line out))
+seen s (by_array a) = rw (save_asked s a) (seen_asked s (call_asks (by_array a)))

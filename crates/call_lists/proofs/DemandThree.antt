@@ -1,4 +1,4 @@
--- Demand 3, rule by rule, and then whole. Assumes nothing.
+-- Demand 3 holds of every list of calls: the rank rule, the fifty-tick rule and the two-tick rule at a place, and then at every place of a list.
 use Prim.Native.Nat.{ℕ, zero, suc, ◌+◌, ◌≤◌}
 use native.Mathlib.Nat.{le_refl, zero-add}
 use native.Mathlib.Omega.{arith}
@@ -10,54 +10,46 @@ use lib.Dec.{T, leb, leb→le}
 use lib.Ieee.Fits.{and_l, and_r}
 use Rattle.std.specs.Prelude.{Option, Some, None}
 use Rattle.relay_fsm.specs.declared.Mode.{Mode}
-use Rattle.relay_fsm.specs.declared.Mode.TheVariants.{Disarmed, Terminated}
+use Rattle.relay_fsm.specs.declared.Mode.TheVariants.{Terminated}
 use Rattle.relay_fsm.specs.Mode.{is_mode, rank_of}
 use Rattle.relay_fsm.proofs.Finite.{is_mode→eq, eq→is_mode}
 use denote.Floats.{is_true}
 use Rattle.relay_batt.specs.declared.battery.Battery.{Battery}
 use Rattle.relay_batt.proofs.Stays.{critical_stays, critical_shown}
-use Rattle.falcon_guidance.specs.declared.state.Config.{Config}
-use Rattle.falcon_guidance.specs.declared.state.Tick.{Tick}
+use Rattle.falcon_state.specs.declared.config.Config.{Config}
+use Rattle.falcon_state.specs.declared.tick.Tick.{Tick}
 use Rattle.falcon_guidance.specs.Geometry.{height_of}
 use Rattle.falcon_core.specs.declared.supervisor.Supervisor.{Supervisor}
-use Rattle.falcon_core.specs.declared.calls.Answered.{Answered}
-use Rattle.falcon_failsafe.specs.Failsafe.{tilted_of, runaway_enough}
-use Rattle.falcon_flight.specs.Milestone.{near_ground_of}
-use Rattle.falcon_core.specs.Land.{landed_of, through_land_of}
+use Rattle.falcon_core.specs.declared.supervisor.Answered.{Answered}
+use Rattle.falcon_events.specs.Failsafe.{tilted_of, runaway_enough}
+use Rattle.falcon_events.specs.Milestone.{near_ground_of}
+use Rattle.falcon_core.specs.Land.{landing_or_off_of}
 use Rattle.falcon_core.specs.Calls.{Request, opens, ticks, reports, commands, plans, legs_in, flight_after, after_of, output_of}
 use Rattle.falcon_core.proofs.Parts.{planned_mode}
 use Rattle.falcon_core.proofs.Rank.{tick_rank, report_rank}
 use Rattle.falcon_core.proofs.Phase.{phase_of, airborne_phase, tick_phase, report_keeps_phase}
 use Rattle.falcon_core.proofs.Runaway.{tick_ends}
-use Rattle.call_lists.specs.Lists.{Call, Began, Place, accepted_request, next_mode, ticked, next_battery, next_began, place_after, next_place_of, place_from, place_at_of, start, latch_of, calm, calm_from, tick_count, ticks_from}
-use Rattle.call_lists.specs.Demand3.{landing_ticks, tumbling_ticks, under_ground, tumbling, tumbling_for, TwoTicks, RankKept, FiftyTicks, Demand3}
+use Rattle.call_lists.specs.Lists.{Call, Began, Place, accepted_request, next_mode, next_battery, next_began, place_after, next_place_of, place_from, place_at_of, first_place, latch_of, calm, calm_from, tick_count, ticks_from}
+use Rattle.call_lists.specs.Demand3.{landing_ticks, tumbling_ticks, below_touchdown_height, tumbling, tumbling_for, TwoTicks, TouchdownTick, RankKept, FiftyTicks, Demand3}
 use Rattle.call_lists.proofs.CallSeen.{Seen, refused, accepts, seen}
 use Rattle.call_lists.proofs.PlaceHolds.{run, Holding, refused_mode, accepted_mode, ticked_flight, began_now, air, one_more, run_now, enough_is, tick_terminates, no_air, next_holding, place_holding, start_holding}
 
 -- ---- the rank rule
 
 -- height under 0.15 m, as the tick tests it
-ground_is : (c : Config) (t : Tick) → near_ground_of c t ≡ under_ground t
-unfolding near_ground_of height_of under_ground
+ground_is : (c : Config) (t : Tick) → near_ground_of (height_of c t.p) ≡ below_touchdown_height t
+unfolding near_ground_of height_of below_touchdown_height
 ground_is c t = refl
-
--- a tick with height under 0.15 m that goes to Disarmed through Land
-record Touched (s : Supervisor) (n : Mode) (k : Option Request) : Type 0 where
-  tick : Tick
-  is_tick_lem : k ≡ Some (ticks tick)
-  low : T (under_ground tick)
-  disarmed : n ≡ Disarmed
-  through_land : T (through_land_of s.flight (legs_in s) tick)
 
 rank_accepted :
     (s : Supervisor) (r : Request)
     → T (calm (Some r))
-    → (rank_of s.flight.fsm.mode ≤ rank_of (after_of s r).flight.fsm.mode) ⊎ Touched s (after_of s r).flight.fsm.mode (Some r)
+    → (rank_of s.flight.fsm.mode ≤ rank_of (after_of s r).flight.fsm.mode) ⊎ TouchdownTick s (Some r) (after_of s r).flight.fsm.mode
 unfolding after_of flight_after
 rank_accepted s (opens o) h = absurd h
 rank_accepted s (ticks t) h =
     ⊎_elim inl
-    (λ u. inr (record { tick = t; is_tick_lem = refl; low = subst T (ground_is s.flight.config t) u.0; disarmed = u.1; through_land = u.2 }))
+    (λ u. inr (record { tick = t; is_tick = refl; low = subst T (ground_is s.flight.config t) u.0; disarmed = u.1; through_land = u.2 }))
     (tick_rank s.flight (legs_in s) t)
 rank_accepted s (reports failed) h = inl (report_rank s.flight failed)
 rank_accepted s (commands ev level low) h = absurd h
@@ -68,16 +60,13 @@ rank_seen :
     → Seen s a k
     → m ≡ s.flight.fsm.mode
     → T (calm k)
-    → (rank_of m ≤ rank_of (next_mode m a)) ⊎ Touched s (next_mode m a) k
+    → (rank_of m ≤ rank_of (next_mode m a)) ⊎ TouchdownTick s k (next_mode m a)
 rank_seen s m _ _ (refused n) e h = inl (rw (refused_mode s m n) (le_refl (rank_of m)))
 rank_seen s m _ _ (accepts r q) e h = rw (accepted_mode (after_of s r) m (output_of s.flight (legs_in s) r), e) (rank_accepted s r h)
 
 pub rank_rule : (p : Place) (c : Call) → Holding p → RankKept p c
 unfolding next_place_of place_after
-rank_rule p c i h =
-    ⊎_elim inl
-    (λ u. inr (record { tick = u.tick; is_tick_lem = u.is_tick_lem; low = u.low; disarmed = u.disarmed; through_land = u.through_land }))
-    (rank_seen p.supervisor p.mode _ _ (seen p.supervisor c) i.mode_is h)
+rank_rule p c i h = rank_seen p.supervisor p.mode _ _ (seen p.supervisor c) i.mode_is h
 
 -- ---- the fifty-tick rule
 
@@ -177,7 +166,7 @@ latch_set s b e h = go s.opened refl
         let w : cond s.opened (Some s.flight.battery) None ≡ None = rw q in
         absurd (subst (λ (x : Option Battery). T (latch_of x)) (e ∙ w) h)
 
-latch_ticked : (b : Option Battery) (t : Tick) → T (latch_of b) → T (latch_of (ticked b t))
+latch_ticked : (b : Option Battery) (t : Tick) → T (latch_of b) → T (latch_of (next_battery b (Some (ticks t))))
 latch_ticked None t h = h
 latch_ticked (Some b) t h = subst T (sym (critical_stays b t.dt t.reading (is_true _ h))) tt
 
@@ -254,24 +243,24 @@ calm_run p (x ∷ l) k i h q c =
     subst (λ (n : ℕ). T (phase_of n (place_from (next_place_of p x) l).mode)) (swap (ticks_from (next_place_of p x) l) (tick_count r) k)
     (calm_run (next_place_of p x) l (tick_count r + k) (next_holding p x i) o.phase o.latch (and_r (calm r) (calm_from (next_place_of p x) l) c))
 
-landed_phase : (n : ℕ) (m : Mode) → landing_ticks ≤ n → T (phase_of n m) → T (landed_of m)
-landed_phase zero m h p = absurd (omega arith)
-landed_phase (suc zero) m h p = absurd (omega arith)
-landed_phase (suc (suc n)) m h p = p
+landing_phase : (n : ℕ) (m : Mode) → landing_ticks ≤ n → T (phase_of n m) → T (landing_or_off_of m)
+landing_phase zero m h p = absurd (omega arith)
+landing_phase (suc zero) m h p = absurd (omega arith)
+landing_phase (suc (suc n)) m h p = p
 
 pub two_tick_rule : (p : Place) (l : List Call) → Holding p → TwoTicks p l
 two_tick_rule p l i air latch c h =
-    landed_phase (ticks_from p l + 0) (place_from p l).mode (omega arith) (calm_run p l 0 i (airborne_phase p.mode air) latch c)
+    landing_phase (ticks_from p l + 0) (place_from p l).mode (omega arith) (calm_run p l 0 i (airborne_phase p.mode air) latch c)
 
 -- ---- at every place of a list
 
-placed : (l : List Call) → Holding (place_at_of l)
-placed l = place_holding start l start_holding
+holding_at : (l : List Call) → Holding (place_at_of l)
+holding_at l = place_holding first_place l start_holding
 
 pub demand3 : Demand3
 demand3 calls =
     record {
-      two_ticks = λ here further rest e. two_tick_rule (place_at_of here) further (placed here);
-      rank_kept = λ here c rest e. rank_rule (place_at_of here) c (placed here);
-      fifty_ticks = λ here c rest e. fifty_rule (place_at_of here) c (placed here);
+      two_ticks = λ here further rest e. two_tick_rule (place_at_of here) further (holding_at here);
+      rank_kept = λ here c rest e. rank_rule (place_at_of here) c (holding_at here);
+      fifty_ticks = λ here c rest e. fifty_rule (place_at_of here) c (holding_at here);
     }

@@ -1,5 +1,5 @@
--- The promises of the state at every place of every list of calls, by line and by values, refused ones among them. Assumes nothing.
-use Prim.Native.Nat.{ℕ, ◌<◌, ◌≤◌}
+-- What the state is promised to be holds at every place of every list of calls, by line and by values, refused ones among them.
+use Prim.Native.Nat.{ℕ, suc, ◌<◌, ◌≤◌}
 use native.Mathlib.Omega.{arith}
 use mathlib.Core.Bool.{true, cond}
 use mathlib.Core.List.{List, [], ◌∷◌}
@@ -7,36 +7,37 @@ use mathlib.Core.Logic.{◌↔◌}
 use mathlib.Core.Path.{◌≡◌, refl, sym, ap, ◌∙◌, subst}
 use lib.Dec.{T, ltb}
 use lib.ListN.{length, get_or}
-use Rattle.std.specs.Prelude.{Option, None, Ok, Err}
+use Rattle.std.specs.Prelude.{Option, None, Ok, Err, All}
 use Rattle.std.specs.Result.{result_ok}
+use Rattle.std.proofs.lemmas.Bool.{cond_both}
 use Rattle.relay_fsm.specs.declared.Mode.{Mode}
 use Rattle.relay_fsm.specs.Mode.{is_airborne_of}
 use Rattle.relay_preflight.specs.Table.{outstanding_of}
 use Rattle.relay_preflight.specs.Verdict.{first_blocker_of, no_blocker}
-use Rattle.relay_preflight.proofs.Laws.{no_blocker_lem, outstanding_zero}
+use Rattle.relay_preflight.proofs.Laws.{no_blocker_iff, outstanding_zero}
 use Rattle.relay_batt.specs.Sound.{InBounds}
-use Rattle.falcon_guidance.specs.State.{nowhere}
+use Rattle.relay_batt.proofs.Sound.{sound_bounds}
+use Rattle.falcon_state.specs.Point.{nowhere}
 use Rattle.falcon_guidance.specs.Mission.{waypoint_admissible_of}
 use Rattle.falcon_core.specs.declared.supervisor.Supervisor.{Supervisor}
-use Rattle.falcon_core.specs.declared.calls.Answered.{Answered}
-use Rattle.falcon_core.specs.Supervisor.{unopened}
-use Rattle.falcon_core.specs.Calls.{Request, refusal_of, after_of, answer_of, refused_of, accepted_of, numbers_of}
-use Rattle.falcon_core.specs.SoundState.{sound_of, SoundFlight, FitFlight}
+use Rattle.falcon_core.specs.declared.supervisor.Answered.{Answered}
+use Rattle.falcon_core.specs.Calls.{unopened, Request, refusal_of, after_of, refused_of, accepted_of}
+use Rattle.falcon_core.specs.Answer.{answer_of, numbers_of}
+use Rattle.falcon_core.specs.SoundState.{sound_supervisor_of, SoundFlight, FitFlight}
 use Rattle.falcon_core.proofs.Refused.{step_keeps}
 use Rattle.falcon_core.proofs.Invariant.{after_sound, unopened_sound}
 use Rattle.falcon_core.proofs.SoundTest.{sound_test}
-use Rattle.falcon_core.proofs.Battery.{OwnPack, after_pack, unopened_pack, sound_bounds}
+use Rattle.falcon_core.proofs.Battery.{OwnPack, after_pack, unopened_pack}
 use Rattle.falcon_core.proofs.Due.{DueAirborne, after_due_airborne, due_unopened}
 use Rattle.falcon_core.proofs.Fits.{fits_step, fits_unopened}
 use Rattle.falcon_core.proofs.Numbers.{numbers_checks}
-use Rattle.requests.specs.Kinds.{Asked, answered_by}
-use Rattle.requests.specs.Parse.{asked_line}
-use Rattle.requests.specs.ByLine.{need_of, asked_with, line_step}
-use Rattle.requests.proofs.Buffer.{full_asked}
-use Rattle.requests.proofs.Lent.{LentAsked, line_lent}
+use Rattle.requests.specs.Kinds.{Asked, asked_step}
+use Rattle.requests.specs.Parse.{line_asks}
+use Rattle.requests.specs.ByLine.{need_of, buffered_line_asks, line_step}
+use Rattle.requests.proofs.Buffer.{full_asks}
+use Rattle.requests.proofs.Fits.{FitAsked, buffered_line_fits}
 use Rattle.falcon_record.specs.Saved.{record_room}
-use Rattle.falcon_core.proofs.Parts.{cond_keeps}
-use Rattle.call_lists.specs.Lists.{Call, by_values, by_line, by_array, asked_of, call_step, accepted, accepted_request, Place, place_after, next_place_of, place_from, place_at_of, start, LentCall, EachLent}
+use Rattle.call_lists.specs.Lists.{Call, by_values, by_line, by_array, call_asks, call_step, accepted, accepted_request, Place, place_after, next_place_of, place_from, place_at_of, first_place, FitCall}
 use Rattle.call_lists.proofs.CallSeen.{Seen, refused, accepts, save_asked, seen}
 use Rattle.call_lists.proofs.PlaceHolds.{place_holding, start_holding}
 
@@ -46,17 +47,17 @@ use Rattle.call_lists.proofs.PlaceHolds.{place_holding, start_holding}
 pub line_is_values :
     (s : Supervisor) (line out : List ℕ) (r : Request)
     → need_of line ≤ length out
-    → asked_line line ≡ Ok r
+    → line_asks line ≡ Ok r
     → (call_step s (by_line line out) ≡ call_step s (by_values r)) × (accepted_request s (by_line line out) ≡ accepted_request s (by_values r))
 unfolding call_step accepted_request line_step
 line_is_values s line out r h e =
-    let k : asked_with line out ≡ Ok r = full_asked line out h ∙ e in
-    (ap (answered_by s) k, ap (λ (a : Asked). cond (accepted (answered_by s a)) (result_ok a) None) k)
+    let k : buffered_line_asks line out ≡ Ok r = full_asks line out h ∙ e in
+    (ap (asked_step s) k, ap (λ (a : Asked). cond (accepted (asked_step s a)) (result_ok a) None) k)
 
 -- ---- what every accepted call keeps
 
 module _ (P : Supervisor → Type 0) (keeps : (s : Supervisor) (r : Request) → P s → refusal_of s r ≡ None → P (after_of s r)) where
-  asked_keeps : (s : Supervisor) (k : Asked) → P s → P (answered_by s k).supervisor
+  asked_keeps : (s : Supervisor) (k : Asked) → P s → P (asked_step s k).supervisor
   unfolding refused_of
   asked_keeps s (Err n) h = h
   asked_keeps s (Ok r) h = step_keeps s r P h (keeps s r h)
@@ -64,8 +65,8 @@ module _ (P : Supervisor → Type 0) (keeps : (s : Supervisor) (r : Request) →
   call_keeps : (s : Supervisor) (c : Call) → P s → P (call_step s c).supervisor
   unfolding call_step line_step
   call_keeps s (by_values r) h = asked_keeps s (Ok r) h
-  call_keeps s (by_line line out) h = asked_keeps s (asked_of (by_line line out)) h
-  call_keeps s (by_array a) h = rw (save_asked s a) (asked_keeps s (asked_of (by_array a)) h)
+  call_keeps s (by_line line out) h = asked_keeps s (call_asks (by_line line out)) h
+  call_keeps s (by_array a) h = rw (save_asked s a) (asked_keeps s (call_asks (by_array a)) h)
 
   -- holds at every further place
   pub place_keeps : (p : Place) (l : List Call) → P p.supervisor → P (place_from p l).supervisor
@@ -75,8 +76,8 @@ module _ (P : Supervisor → Type 0) (keeps : (s : Supervisor) (r : Request) →
 
   -- and at every place, where it holds of the state with no opening
   pub every_place : P unopened → (l : List Call) → P (place_at_of l).supervisor
-  unfolding start
-  every_place h l = place_keeps start l h
+  unfolding first_place
+  every_place h l = place_keeps first_place l h
 
 -- ---- the promises
 
@@ -84,7 +85,7 @@ pub sound_flight : (l : List Call) → SoundFlight (place_at_of l).supervisor.fl
 sound_flight = every_place (λ (u : Supervisor). SoundFlight u.flight u.waypoints) after_sound unopened_sound
 
 -- the state passes every test, with no word on the floats of the calls
-pub sound_place : (l : List Call) → T (sound_of (place_at_of l).supervisor)
+pub sound_place : (l : List Call) → T (sound_supervisor_of (place_at_of l).supervisor)
 sound_place l = sound_test (place_at_of l).supervisor (sound_flight l)
 
 -- "Every point in use is admissible."
@@ -100,35 +101,35 @@ pack_place l = every_place (λ (u : Supervisor). OwnPack u.flight) after_pack un
 
 -- "Bounds to be shown: charge 0..1, used 0..5000 mAh, estimated resistance 0.001..0.2"
 pub battery_bounds : (l : List Call) → InBounds (place_at_of l).supervisor.flight.battery
-battery_bounds l = sound_bounds _ _ (pack_place l) (sound_flight l).battery
+battery_bounds l = sound_bounds _ _ _ (pack_place l).made (sound_flight l).battery
 
 -- a due report finds the mode airborne
 pub due_airborne : (l : List Call) → (place_at_of l).supervisor.report_due ≡ true → T (is_airborne_of (place_at_of l).mode)
 due_airborne l d =
-    subst (λ (m : Mode). T (is_airborne_of m)) (sym (place_holding start l start_holding).mode_is) (every_place DueAirborne after_due_airborne due_unopened l d)
+    subst (λ (m : Mode). T (is_airborne_of m)) (sym (place_holding first_place l start_holding).mode_is) (every_place DueAirborne after_due_airborne due_unopened l d)
 
 -- ---- the floats of the state
 
-fits_asked : (s : Supervisor) (k : Asked) → LentAsked k → FitFlight s.flight s.waypoints → FitFlight (answered_by s k).supervisor.flight (answered_by s k).supervisor.waypoints
+fits_asked : (s : Supervisor) (k : Asked) → FitAsked k → FitFlight s.flight s.waypoints → FitFlight (asked_step s k).supervisor.flight (asked_step s k).supervisor.waypoints
 unfolding refused_of
 fits_asked s (Err n) l h = h
 fits_asked s (Ok r) l h = fits_step s r l h
 
-fits_call : (s : Supervisor) (c : Call) → LentCall c → FitFlight s.flight s.waypoints → FitFlight (call_step s c).supervisor.flight (call_step s c).supervisor.waypoints
+fits_call : (s : Supervisor) (c : Call) → FitCall c → FitFlight s.flight s.waypoints → FitFlight (call_step s c).supervisor.flight (call_step s c).supervisor.waypoints
 unfolding call_step line_step
 fits_call s (by_values r) l h = fits_step s r l h
-fits_call s (by_line line out) l h = fits_asked s (asked_with line out) (line_lent line out) h
-fits_call s (by_array a) l h = rw (save_asked s a) (fits_asked s (asked_of (by_array a)) (cond_keeps LentAsked (ltb (length a) record_room) _ _ tt tt) h)
+fits_call s (by_line line out) l h = fits_asked s (buffered_line_asks line out) (buffered_line_fits line out) h
+fits_call s (by_array a) l h = rw (save_asked s a) (fits_asked s (call_asks (by_array a)) (cond_both (ltb (length a) record_room) _ _ FitAsked (λ e. tt) (λ e. tt)) h)
 
-fits_from : (p : Place) (l : List Call) → EachLent l → FitFlight p.supervisor.flight p.supervisor.waypoints → FitFlight (place_from p l).supervisor.flight (place_from p l).supervisor.waypoints
+fits_from : (p : Place) (l : List Call) → All FitCall l → FitFlight p.supervisor.flight p.supervisor.waypoints → FitFlight (place_from p l).supervisor.flight (place_from p l).supervisor.waypoints
 unfolding place_from next_place_of place_after
 fits_from p [] e h = h
-fits_from p (c ∷ l) e h = fits_from (next_place_of p c) l e.1 (fits_call p.supervisor c e.0 h)
+fits_from p (c ∷ l) e h = fits_from (next_place_of p c) l (λ k d q. e (suc k) d (omega arith)) (fits_call p.supervisor c (e 0 c (omega arith)) h)
 
 -- the floats of the state are f32 values where those lent are
-pub fits_place : (l : List Call) → EachLent l → FitFlight (place_at_of l).supervisor.flight (place_at_of l).supervisor.waypoints
-unfolding start
-fits_place l e = fits_from start l e fits_unopened
+pub fits_place : (l : List Call) → All FitCall l → FitFlight (place_at_of l).supervisor.flight (place_at_of l).supervisor.waypoints
+unfolding first_place
+fits_place l e = fits_from first_place l e fits_unopened
 
 -- ---- the last two columns of every answer
 
@@ -149,7 +150,7 @@ none_outstanding l c =
     let columns = numbers_checks a.answer in
     let sound = (call_keeps (λ (u : Supervisor). SoundFlight u.flight u.waypoints) after_sound s c (sound_flight l)).checks in
     let none = outstanding_zero a.supervisor.flight.check_table sound.required_below (omega (arith, sound.passed_below)) in
-    let number = no_blocker_lem a.answer.blocker in (
+    let number = no_blocker_iff a.answer.blocker in (
       λ e. columns.1 ∙ number.1 (shown.1 ∙ none.0 (sym shown.0 ∙ sym columns.0 ∙ e)),
       λ e. columns.0 ∙ shown.0 ∙ none.1 (sym shown.1 ∙ number.0 (sym columns.1 ∙ e)),
     )

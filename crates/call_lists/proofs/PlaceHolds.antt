@@ -1,49 +1,44 @@
--- What holds at every place of every list of calls. Assumes nothing.
+-- At every place of every list of calls the place agrees with the state there: the mode, the configuration, the battery, the tilt count and the totals.
 use Prim.Native.Nat.{ℕ, suc, ◌+◌, ◌≤◌}
 use native.Mathlib.Omega.{arith}
 use native.Mathlib.Decide.{dec_le}
-use mathlib.Core.Bool.{Bool, true, false, cond, not, ◌&&◌}
+use mathlib.Core.Bool.{Bool, true, false, cond, not, ◌&&◌, or-true}
 use mathlib.Core.List.{List, [], ◌∷◌}
 use mathlib.Core.Logic.{◌⊎◌, inl, inr, ⊎_elim}
 use mathlib.Core.Path.{◌≡◌, refl, sym, ap, ◌∙◌, subst}
 use lib.Dec.{T, leb}
 use borrow.Author.Tests.{le-leb}
-use mathlib.Core.Bool.{or-true}
 use Rattle.std.specs.Prelude.{Option, Some, None}
-use Rattle.relay_math.specs.Small.{saturating_add_of}
+use Rattle.relay_math.specs.Small.{f32_zero, saturating_add_of}
 use Rattle.relay_fsm.specs.declared.Mode.{Mode}
 use Rattle.relay_fsm.specs.declared.Mode.TheVariants.{Terminated}
 use Rattle.relay_fsm.specs.Mode.{is_mode, is_airborne_of}
 use Rattle.relay_fsm.proofs.Finite.{is_mode→eq}
 use Rattle.relay_batt.specs.declared.battery.Battery.{Battery}
-use Rattle.relay_batt.specs.declared.estimator.BattState.{BattState}
-use Rattle.relay_batt.specs.declared.config.BattConfig.{BattConfig}
 use Rattle.relay_batt.specs.Battery.{update_of}
-use Rattle.relay_batt.specs.Battery.{opened_of as openedBatteryOf}
 use Rattle.relay_batt.specs.Config.{for_opening_volts_of}
-use Rattle.relay_batt.proofs.Stays.{critical_shown, opened_state, opened_flags, none_flags}
-use Rattle.falcon_guidance.specs.declared.state.Tick.{Tick}
-use Rattle.falcon_failsafe.specs.declared.flight.Counts.{Counts}
+use Rattle.relay_batt.proofs.Sound.{sound_new}
+use Rattle.relay_batt.proofs.Stays.{critical_shown}
+use Rattle.falcon_state.specs.declared.tick.Tick.{Tick}
+use Rattle.falcon_state.specs.declared.flight.Counts.{Counts}
 use Rattle.falcon_core.specs.declared.supervisor.Supervisor.{Supervisor}
-use Rattle.falcon_failsafe.specs.declared.flight.FlightSupervisor.{FlightSupervisor}
-use Rattle.falcon_core.specs.declared.calls.Answered.{Answered}
-use Rattle.falcon_core.specs.declared.calls.Output.{Output}
+use Rattle.falcon_state.specs.declared.flight.FlightSupervisor.{FlightSupervisor}
+use Rattle.falcon_core.specs.declared.supervisor.Answered.{Answered}
+use Rattle.falcon_core.specs.declared.answer.Output.{Output}
 use Rattle.falcon_core.specs.declared.refusal.Refusal.{Refusal}
-use Rattle.falcon_guidance.specs.State.{zerof}
-use Rattle.falcon_failsafe.specs.Flight.{opened_of}
-use Rattle.falcon_core.specs.Supervisor.{unopened}
-use Rattle.falcon_failsafe.specs.Failsafe.{tilted_of, runaway_enough, reported_of}
-use Rattle.falcon_flight.specs.Tick.{tick_of}
-use Rattle.falcon_core.specs.Calls.{Request, opens, ticks, reports, commands, plans, refusal_of, legs_in, flight_after, totals_after, after_of, output_of, answer_of, refused_of, accepted_of}
+use Rattle.falcon_state.specs.Flight.{opened_of}
+use Rattle.falcon_events.specs.Failsafe.{tilted_of, runaway_enough, report_of}
+use Rattle.falcon_tick.specs.Tick.{tick_of}
+use Rattle.falcon_core.specs.Calls.{unopened, Request, opens, ticks, reports, commands, plans, refusal_of, legs_in, flight_after, totals_after, after_of, output_of, refused_of, accepted_of}
+use Rattle.falcon_core.specs.Answer.{answer_of}
 use Rattle.falcon_core.proofs.Parts.{planned_mode, planned_battery, planned_counts, after_config}
-use Rattle.falcon_core.proofs.Invariant.{start_sound, start_untilted}
 use Rattle.falcon_core.proofs.Stages.{tick_battery, report_battery, report_counts, command_battery, command_counts}
-use Rattle.falcon_core.proofs.Runaway.{tick_count_lem, tick_ends, report_ends, command_terminated}
+use Rattle.falcon_core.proofs.Runaway.{tick_runaway_count, tick_ends, report_ends, command_terminated}
 use Rattle.falcon_totals.specs.declared.DayTotals.{DayTotals}
 use Rattle.falcon_totals.specs.Totals.{counted_of}
 use Rattle.falcon_totals.specs.Counts.{Counted}
 use Rattle.falcon_totals.proofs.Counting.{totals_of, totals_none, totals_next}
-use Rattle.call_lists.specs.Lists.{Call, Began, Place, next_mode, ticked, place_after, next_place_of, place_from, start}
+use Rattle.call_lists.specs.Lists.{Call, Began, Place, next_mode, next_battery, place_after, next_place_of, place_from, first_place}
 use Rattle.call_lists.specs.Demand3.{tumbling_ticks, tumbling}
 use Rattle.call_lists.proofs.CallSeen.{Seen, refused, accepts, seen}
 
@@ -126,12 +121,12 @@ kept p s l i o g e c k t =
 pub no_air : (m : Mode) (b : Bool) → m ≡ Terminated → (is_airborne_of m && b) ≡ true → ⊥
 no_air m b e h = subst (λ (x : Bool). T (not x)) (sym (ap (λ (x : Mode). is_airborne_of x && b) e) ∙ h) tt
 
-report_terminated : (f : FlightSupervisor) (failed : Bool) → f.fsm.mode ≡ Terminated → (reported_of f failed).fsm.mode ≡ Terminated
+report_terminated : (f : FlightSupervisor) (failed : Bool) → f.fsm.mode ≡ Terminated → (report_of f failed).fsm.mode ≡ Terminated
 report_terminated f failed e =
-    is_mode→eq (reported_of f failed).fsm.mode Terminated
+    is_mode→eq (report_of f failed).fsm.mode Terminated
     (subst T (sym (report_ends f failed ∙ ap (λ (x : Mode). is_mode x Terminated) e)) tt)
 
-ticked_opened : (b : Option Battery) (x y : Battery) (t : Tick) (o : Bool) → y ≡ update_of x t.dt t.reading → b ≡ cond o (Some x) None → ticked b t ≡ cond o (Some y) None
+ticked_opened : (b : Option Battery) (x y : Battery) (t : Tick) (o : Bool) → y ≡ update_of x t.dt t.reading → b ≡ cond o (Some x) None → next_battery b (Some (ticks t)) ≡ cond o (Some y) None
 ticked_opened b x y t true e h = rw (h, e)
 ticked_opened b x y t false e h = rw h
 
@@ -172,7 +167,7 @@ module _ (p : Place) (t : Tick) (i : Holding p) where
   one_more = let e = i.count_is in let h = run_small in omega (arith, e, h)
 
   tick_run : ticked_flight.counts.runaway_count ≡ run (began_now ∷ p.began)
-  tick_run = tick_count_lem flight (legs_in p.supervisor) t ∙ ap (λ (n : ℕ). cond air n 0) one_more ∙ sym run_now
+  tick_run = tick_runaway_count flight (legs_in p.supervisor) t ∙ ap (λ (n : ℕ). cond air n 0) one_more ∙ sym run_now
 
   -- the tick on which the count is enough
   pub tick_terminates : air ≡ true → tumbling_ticks ≤ suc (run p.began) → ticked_flight.fsm.mode ≡ Terminated
@@ -215,20 +210,23 @@ module _ (p : Place) (t : Tick) (i : Holding p) where
 
 -- ---- every call
 
--- the state with no opening shows what its latch is
-opened_shown : (cfg : BattConfig) → (openedBatteryOf cfg).state.critical ≡ (openedBatteryOf cfg).est.critical.latched
-opened_shown cfg = ap (λ (x : BattState). x.critical) (opened_state cfg) ∙ none_flags.1 ∙ sym (opened_flags cfg).3
-
 -- an accepted call
 after_accepted :
     (p : Place) (r : Request)
     → refusal_of p.supervisor r ≡ None
     → Holding p
     → Holding (place_after p (accepted_of (after_of p.supervisor r) (output_of p.supervisor.flight (legs_in p.supervisor) r)) (Some r))
-unfolding place_after accepted_of answer_of after_of flight_after totals_after run
+unfolding place_after accepted_of answer_of after_of flight_after totals_after opened_of run
 after_accepted p (opens o) e i =
-    let k = start_sound p.supervisor o e in
-    record { mode_is = refl; config_is = refl; battery_is = refl; shown_is = k.battery.critical_shown; count_is = start_untilted o; capped = inl (omega arith); totals_are = totals_none }
+    record {
+      mode_is = refl;
+      config_is = refl;
+      battery_is = refl;
+      shown_is = (sound_new (for_opening_volts_of o.low_batt_v)).critical_shown;
+      count_is = refl;
+      capped = inl (omega arith);
+      totals_are = totals_none;
+    }
 after_accepted p (ticks t) e i = after_tick p t i
 after_accepted p (reports failed) e i =
     kept p _ _ i refl (after_config p.supervisor (reports failed) refl) (report_battery p.supervisor.flight failed) (report_counts p.supervisor.flight failed)
@@ -257,7 +255,15 @@ unfolding place_from
 place_holding p [] i = i
 place_holding p (c ∷ l) i = place_holding (next_place_of p c) l (next_holding p c i)
 
-pub start_holding : Holding start
-unfolding start unopened opened_of run
+pub start_holding : Holding first_place
+unfolding first_place unopened opened_of run
 start_holding =
-    record { mode_is = refl; config_is = refl; battery_is = refl; shown_is = opened_shown (for_opening_volts_of zerof); count_is = refl; capped = inl (omega arith); totals_are = totals_none }
+    record {
+      mode_is = refl;
+      config_is = refl;
+      battery_is = refl;
+      shown_is = (sound_new (for_opening_volts_of f32_zero)).critical_shown;
+      count_is = refl;
+      capped = inl (omega arith);
+      totals_are = totals_none;
+    }

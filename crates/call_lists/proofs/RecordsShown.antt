@@ -1,4 +1,4 @@
--- The columns of the state over every list of calls whose lent floats are f32 values.
+-- Wherever a list of calls asks for the state, it is had back from the columns told, and equal columns mean equal answers from then on.
 use Prim.Native.Nat.{ℕ, ◌≤◌, ◌<◌, ◌^◌}
 use mathlib.Core.Bool.{Bool, true, false, cond}
 use mathlib.Core.List.{List, [], ◌∷◌, ◌++◌}
@@ -6,16 +6,17 @@ use mathlib.Core.Path.{◌≡◌, refl, sym, ap, ◌∙◌, subst}
 use borrow.Author.Tests.{ltb-false}
 use lib.Dec.{ltb, lit≤}
 use lib.ListN.{length}
-use Rattle.std.specs.Prelude.{Some, None, Ok, Err}
+use Rattle.std.specs.Prelude.{Some, None, Ok, Err, All}
 use Rattle.std.specs.Result.{result_ok}
 use Rattle.columns.specs.Line.{InRange, line_of, over}
-use Rattle.falcon_guidance.specs.State.{max_waypoints}
+use Rattle.falcon_state.specs.Point.{max_waypoints}
 use Rattle.falcon_totals.specs.declared.DayTotals.{DayTotals}
 use Rattle.falcon_totals.specs.Totals.{totals_numbers}
 use Rattle.falcon_core.specs.declared.supervisor.Supervisor.{Supervisor}
-use Rattle.falcon_core.specs.declared.calls.Answered.{Answered}
-use Rattle.falcon_core.specs.declared.calls.Output.TheVariants.{Record}
-use Rattle.falcon_core.specs.Calls.{Request, plans, saves, answer_of, accepted_of, numbers_of}
+use Rattle.falcon_core.specs.declared.supervisor.Answered.{Answered}
+use Rattle.falcon_core.specs.declared.answer.Output.TheVariants.{Record}
+use Rattle.falcon_core.specs.Calls.{Request, plans, saves, accepted_of}
+use Rattle.falcon_core.specs.Answer.{answer_of, numbers_of}
 use Rattle.falcon_core.specs.declared.refusal.Refusal.TheVariants.{ShortBuffer}
 use Rattle.falcon_core.proofs.Answers.{step_accepted, in_sequence, tells_state, told_output}
 use Rattle.falcon_core.proofs.Refused.{accepted_passed, told_keeps}
@@ -24,15 +25,15 @@ use Rattle.falcon_record.specs.Columns.{columns_in}
 use Rattle.falcon_record.specs.From.{record_from}
 use Rattle.falcon_record.specs.Kept.{Kept, Ready}
 use Rattle.falcon_record.specs.Saved.{written_form, columns_of, save_step, saved_over}
-use Rattle.falcon_record.proofs.Back.{record_back_lem, columns_same}
+use Rattle.falcon_record.proofs.Back.{state_back, columns_same}
 use Rattle.falcon_record.proofs.Forms.{line_back, carries}
 use Rattle.falcon_record.proofs.Saving.{record_fits}
-use Rattle.falcon_record.proofs.Reached.{after_wind_lem, unopened_wind, totals_below}
-use Rattle.requests.specs.Kinds.{Asked, answered_by}
-use Rattle.requests.specs.Parse.{asked_line}
-use Rattle.requests.specs.ByLine.{need_of, asked_with, line_step, extra_of}
+use Rattle.falcon_record.proofs.Reached.{after_wind_below, unopened_wind_below, totals_below}
+use Rattle.requests.specs.Kinds.{Asked, asked_step}
+use Rattle.requests.specs.Parse.{line_asks}
+use Rattle.requests.specs.ByLine.{need_of, buffered_line_asks, line_step, extra_of}
 use Rattle.requests.proofs.ToldLines.{told_over}
-use Rattle.call_lists.specs.Lists.{Call, by_values, by_line, by_array, asked_of, Place, accepted, accepted_request, call_step, place_after, next_place_of, answers_from, lent_after, lent_from, place_at_of, start, EachLent}
+use Rattle.call_lists.specs.Lists.{Call, by_values, by_line, by_array, call_asks, Place, accepted, accepted_request, call_step, place_after, next_place_of, answers_from, lent_after, lent_from, place_at_of, first_place, FitCall}
 use Rattle.call_lists.specs.Records.{written_by, lent_with, ReadBack, RecordBack, WrittenAlike}
 use Rattle.call_lists.proofs.CallSeen.{seen}
 use Rattle.call_lists.proofs.ToldSeen.{Told, told_seen}
@@ -41,14 +42,14 @@ use Rattle.call_lists.proofs.EveryPlace.{every_place, sound_flight, pack_place, 
 
 -- ---- what the columns rest on, at every place
 
-pub kept_place : (l : List Call) → EachLent l → Kept (place_at_of l).supervisor
+pub kept_place : (l : List Call) → All FitCall l → Kept (place_at_of l).supervisor
 kept_place l e =
     record {
       fit = fits_place l e;
       sound = sound_flight l;
       pack = pack_place l;
-      wind_below = every_place (λ (u : Supervisor). u.flight.counts.wind_count < 2 ^ 32) after_wind_lem unopened_wind l;
-      totals_below = subst (λ (t : DayTotals). InRange (totals_numbers t)) (sym (place_holding start l start_holding).totals_are) (totals_below (place_at_of l).counted);
+      wind_below = every_place (λ (u : Supervisor). u.flight.counts.wind_count < 2 ^ 32) after_wind_below unopened_wind_below l;
+      totals_below = subst (λ (t : DayTotals). InRange (totals_numbers t)) (sym (place_holding first_place l start_holding).totals_are) (totals_below (place_at_of l).counted);
     }
 
 -- ---- an accepted call for the state
@@ -85,11 +86,11 @@ accepted_asked true (Err n) r e = cc
 accepted_asked true (Ok x) r e = (refl, (cc))
 
 -- and with room
-asked_room : (line out : List ℕ) (r : Request) → asked_with line out ≡ Ok r → (asked_line line ≡ Ok r) × (need_of line ≤ length out)
-unfolding asked_with
+asked_room : (line out : List ℕ) (r : Request) → buffered_line_asks line out ≡ Ok r → (line_asks line ≡ Ok r) × (need_of line ≤ length out)
+unfolding buffered_line_asks
 asked_room line out r e = go (ltb (length out) (need_of line)) refl e
   where
-    go : (b : Bool) → ltb (length out) (need_of line) ≡ b → cond b (Err ShortBuffer) (asked_line line) ≡ Ok r → (asked_line line ≡ Ok r) × (need_of line ≤ length out)
+    go : (b : Bool) → ltb (length out) (need_of line) ≡ b → cond b (Err ShortBuffer) (line_asks line) ≡ Ok r → (line_asks line ≡ Ok r) × (need_of line ≤ length out)
     go true q h = cc
     go false q h = (h, ltb-false (length out) (need_of line) q)
 
@@ -97,18 +98,18 @@ columns_lent : (s : Supervisor) (c : Call) → accepted_request s c ≡ Some (pl
 unfolding lent_after lent_with accepted_request call_step line_step saved_over extra_of
 columns_lent s (by_values r) e = refl
 columns_lent s (by_line line out) e =
-    let k = accepted_asked (accepted (line_step s line out)) (asked_with line out) (plans saves) e in
+    let k = accepted_asked (accepted (line_step s line out)) (buffered_line_asks line out) (plans saves) e in
     let room = asked_room line out (plans saves) k.1 in
     told_over s saves Record tells_state (told s (by_line line out) e).fits line out room.0 room.1
-    ∙ ap (λ (q : Asked). over (line_of (numbers_of (answered_by s q).answer) ++ line_of (columns_of s)) out) (sym k.1)
-columns_lent s (by_array a) e = rw (accepted_asked (accepted (save_step s a)) (asked_of (by_array a)) (plans saves) e).0
+    ∙ ap (λ (q : Asked). over (line_of (numbers_of (asked_step s q).answer) ++ line_of (columns_of s)) out) (sym k.1)
+columns_lent s (by_array a) e = rw (accepted_asked (accepted (save_step s a)) (call_asks (by_array a)) (plans saves) e).0
 
 pub record_had_back : RecordBack
 unfolding columns_of
 record_had_back here c e q =
     let s = (place_at_of here).supervisor in
     let k = kept_place here e in
-    let back : (form : Form) → max_waypoints ≤ form.places → record_from form (columns_in form s) ≡ s = λ form h. record_back_lem form s k (saved_ready s c q) (carries form s h k) in
+    let back : (form : Form) → max_waypoints ≤ form.places → record_from form (columns_in form s) ≡ s = λ form h. state_back form s k (saved_ready s c q) (carries form s h k) in
     subst (ReadBack s c) (sym (saved_columns s c q))
     (record { lent = columns_lent s c q; line = line_back written_form s _ k record_fits; state = back written_form (lit≤ tt); forms = back })
 

@@ -1,11 +1,12 @@
--- What an accepted call for the totals or for the state tells, by line and by values. Assumes nothing.
+-- What an accepted call for the totals or for the state tells, by line and by values.
 use mathlib.Core.List.{◌++◌}
 use mathlib.Core.Path.{◌≡◌, sym, ap, ◌∙◌, subst}
 use Rattle.std.specs.Prelude.{Option, Some, None, Ok}
 use Rattle.falcon_core.specs.declared.supervisor.Supervisor.{Supervisor}
-use Rattle.falcon_core.specs.declared.calls.Answered.{Answered}
-use Rattle.falcon_core.specs.declared.calls.Output.{Output}
-use Rattle.falcon_core.specs.Calls.{Request, Planning, plans, refusal_of, step_of, numbers_of}
+use Rattle.falcon_core.specs.declared.supervisor.Answered.{Answered}
+use Rattle.falcon_core.specs.declared.answer.Output.{Output}
+use Rattle.falcon_core.specs.Calls.{Request, Planning, plans, refusal_of, step_of}
+use Rattle.falcon_core.specs.Answer.{numbers_of}
 use Rattle.falcon_core.proofs.Answers.{step_accepted, Telling}
 use Rattle.requests.specs.ByLine.{extra_of, reply_numbers}
 use Rattle.requests.proofs.ToldLines.{told_numbers}

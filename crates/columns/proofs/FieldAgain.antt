@@ -1,9 +1,9 @@
--- A field that is written is read as its number, and a field that is read is the one that is written. Assumes nothing.
+-- A field that is written is read as its number, and a field that is read is the one that its number is written as.
 use Rattle.std.proofs.Common.{◌≡◌, ℕ, zero, suc, ◌+◌, ◌-◌, ◌*◌, ◌/◌, ◌%◌, ◌^◌, ◌<◌, ◌≤◌, List, [], ◌∷◌, ◌++◌, length, sym, refl, ap, ◌∙◌, append_assoc, append-nil, add-zero, mul_assoc, mul_comm, pow-suc, add-one, arith, length-append, le-ltb, lt-ltb, eq-eqb, ne_eqb, le-leb, Option, Some}
 use native.Mathlib.Decide.{ℕ_discrete, dec_le, dec_lt}
 use lib.ListN.{replicate-append-replicate}
 use borrow.Author.Tests.{lt-leb}
-use Rattle.columns.specs.Field.{field_width, number_limit, space, in_range, digits, start, spaced, field_read, column, columns, field_of, spaces}
+use Rattle.columns.specs.Field.{field_width, number_limit, space, in_range, digits, first_digit, spaced, field_read, column, columns, field_of, spaces}
 
 -- one decimal digit more
 pub digits_more : (v b : ℕ) (s : List ℕ) → 48 ≤ b → b ≤ 57 → digits v (b ∷ s) ≡ digits (v * 10 + (b - 48)) s
@@ -11,9 +11,9 @@ unfolding digits
 digits_more v b s low high = simp (le-leb 48 b low, le-leb b 57 high)
 
 -- a number in range is itself
-pub in_range_lem : (v : ℕ) → v < number_limit → in_range v ≡ Some v
+pub in_range_some : (v : ℕ) → v < number_limit → in_range v ≡ Some v
 unfolding in_range
-in_range_lem v h = simp (lt-ltb v number_limit h)
+in_range_some v h = simp (lt-ltb v number_limit h)
 
 -- one space more
 pub spaces_one : (k : ℕ) → spaces (suc k) ≡ spaces k ++ spaces 1
@@ -45,12 +45,12 @@ spaced_pass zero s = refl
 spaced_pass (suc k) s = spaced_pass k s
 
 -- a first digit that is not 0 begins a number
-pub start_digit : (b : ℕ) (s : List ℕ) → (b ≡ 48 → ⊥) → start b s ≡ digits 0 (b ∷ s)
-unfolding start
-start_digit b [] h = refl
-start_digit b (a ∷ s) h = simp (ne_eqb b 48 h)
+pub first_digit_is : (b : ℕ) (s : List ℕ) → (b ≡ 48 → ⊥) → first_digit b s ≡ digits 0 (b ∷ s)
+unfolding first_digit
+first_digit_is b [] h = refl
+first_digit_is b (a ∷ s) h = simp (ne_eqb b 48 h)
 
-pub spaced_digit : (b : ℕ) (s : List ℕ) → (b ≡ space → ⊥) → spaced (b ∷ s) ≡ start b s
+pub spaced_digit : (b : ℕ) (s : List ℕ) → (b ≡ space → ⊥) → spaced (b ∷ s) ≡ first_digit b s
 unfolding spaced
 spaced_digit b s h = simp (ne_eqb b space h)
 
@@ -61,11 +61,11 @@ last_digit n s =
     digits_more (n / 10) (48 + n % 10) s (omega arith) (omega arith) ∙ ap (λ (v : ℕ). digits v s) e
 
 -- a first digit that is not 0
-first_digit : (m : ℕ) (s : List ℕ) → 0 < m → m < 10 → spaced ((48 + m % 10) ∷ s) ≡ digits m s
-first_digit m s low high =
+digit_begins : (m : ℕ) (s : List ℕ) → 0 < m → m < 10 → spaced ((48 + m % 10) ∷ s) ≡ digits m s
+digit_begins m s low high =
     let e : 0 * 10 + (48 + m % 10 - 48) ≡ m = omega arith in
     spaced_digit (48 + m % 10) s (λ q. omega arith)
-    ∙ start_digit (48 + m % 10) s (λ q. omega arith)
+    ∙ first_digit_is (48 + m % 10) s (λ q. omega arith)
     ∙ digits_more 0 (48 + m % 10) s (omega arith) (omega arith)
     ∙ ap (λ (v : ℕ). digits v s) e
 
@@ -85,7 +85,7 @@ alone k m s e low =
     ap (λ (j : ℕ). spaced (columns k j ++ ((48 + m % 10) ∷ s))) e
     ∙ ap (λ (l : List ℕ). spaced (l ++ ((48 + m % 10) ∷ s))) (columns_none k)
     ∙ spaced_pass k ((48 + m % 10) ∷ s)
-    ∙ first_digit m s low (omega arith)
+    ∙ digit_begins m s low (omega arith)
 
 -- the columns of a number that is not 0, read from the first on
 columns_read : (k m : ℕ) (s : List ℕ) → 0 < m → m < 10 ^ k → spaced (columns k m ++ s) ≡ digits m s
@@ -101,7 +101,7 @@ columns_read (suc k) m s low high =
 
 -- one digit alone, 0 too
 single : (b : ℕ) → 48 ≤ b → spaced (b ∷ []) ≡ digits 0 (b ∷ [])
-unfolding start
+unfolding first_digit
 single b low = spaced_digit b [] (λ q. omega arith)
 
 -- a field's columns, read
@@ -118,12 +118,12 @@ columns_last k n h =
       | no q ↦ columns_read k (n / 10) ((48 + n % 10) ∷ []) (omega arith) h ∙ last_digit n []
     ]
 
--- "Sheet numbers written are the numbers read again", of one field
+-- a number that is written is read again
 pub read_written : (n : ℕ) → n < 2 ^ 32 → field_read (field_of n) ≡ Some n
 unfolding field_read field_of digits
 read_written n h =
     simp (eq-eqb (length (field_of n)) field_width (length_field n))
-    (columns_last (field_width - 1) n (omega arith) ∙ in_range_lem n (omega arith))
+    (columns_last (field_width - 1) n (omega arith) ∙ in_range_some n (omega arith))
 
 -- ---- the other way
 
@@ -229,10 +229,10 @@ wrote_several j b s n q h =
     ∙ sym (append-nil (columns (suc (j + length s)) n))
     ∙ columns_more (j + length s) n [] (omega arith)
 
-wrote_start : (j b : ℕ) (s : List ℕ) (n : ℕ) → start b s ≡ Some n → spaces j ++ (b ∷ s) ≡ wide (j + length s) n
-unfolding start
-wrote_start j b [] n h = wrote_single j b n h ∙ ap (λ (k : ℕ). wide k n) (sym (add-zero j))
-wrote_start j b (a ∷ s) n h =
+wrote_first_digit : (j b : ℕ) (s : List ℕ) (n : ℕ) → first_digit b s ≡ Some n → spaces j ++ (b ∷ s) ≡ wide (j + length s) n
+unfolding first_digit
+wrote_first_digit j b [] n h = wrote_single j b n h ∙ ap (λ (k : ℕ). wide k n) (sym (add-zero j))
+wrote_first_digit j b (a ∷ s) n h =
     elim (ℕ_discrete b 48) [
       | yes e ↦ cc (simp (eq-eqb b 48 e) at h)
       | no q ↦ wrote_several j b (a ∷ s) n q (simp (ne_eqb b 48 q) at h)
@@ -250,7 +250,7 @@ wrote_spaced j (b ∷ s) n h w =
           ∙ wrote_spaced (suc j) s n (simp (eq-eqb b space e) at h) (omega arith)
       | no q ↦
           let k : j + length s ≡ field_width - 1 = omega arith in
-          wrote_start j b s n (simp (ne_eqb b space q) at h) ∙ ap (λ (m : ℕ). wide m n) k
+          wrote_first_digit j b s n (simp (ne_eqb b space q) at h) ∙ ap (λ (m : ℕ). wide m n) k
     ]
 
 -- a field that is read as a number is the one that the number is written as
@@ -262,10 +262,10 @@ read_only s n h =
       | no q ↦ cc (simp (ne_eqb (length s) field_width q) at h)
     ]
 
-start_range : (b : ℕ) (s : List ℕ) (n : ℕ) → start b s ≡ Some n → n < number_limit
-unfolding start
-start_range b [] n h = (digits_range 0 (b ∷ []) n h).1
-start_range b (a ∷ s) n h =
+first_digit_range : (b : ℕ) (s : List ℕ) (n : ℕ) → first_digit b s ≡ Some n → n < number_limit
+unfolding first_digit
+first_digit_range b [] n h = (digits_range 0 (b ∷ []) n h).1
+first_digit_range b (a ∷ s) n h =
     elim (ℕ_discrete b 48) [
       | yes e ↦ cc (simp (eq-eqb b 48 e) at h)
       | no q ↦ (digits_range 0 (b ∷ a ∷ s) n (simp (ne_eqb b 48 q) at h)).1
@@ -277,7 +277,7 @@ spaced_range [] n h = cc
 spaced_range (b ∷ s) n h =
     elim (ℕ_discrete b space) [
       | yes e ↦ spaced_range s n (simp (eq-eqb b space e) at h)
-      | no q ↦ start_range b s n (simp (ne_eqb b space q) at h)
+      | no q ↦ first_digit_range b s n (simp (ne_eqb b space q) at h)
     ]
 
 -- a number that is read is one of 0..4294967295

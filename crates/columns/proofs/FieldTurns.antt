@@ -1,12 +1,12 @@
--- The turns of the field reader's loop, and a field from what its spaces end at. Assumes nothing.
+-- A turn of the field reader's loop reads one digit more of the number that begins where the field's spaces end.
 use Rattle.std.proofs.Common.{◌≡◌, ℕ, suc, ◌+◌, ◌-◌, ◌*◌, ◌^◌, ◌<◌, ◌≤◌, Bool, true, false, not, ◌==◌, Option, Some, None, List, [], ◌∷◌, length, get_or, take, drop, position, sym, refl, ap, ◌∙◌, subst, take_all, length-drop, get_or-drop, drop_of_length-le, pow-suc, add-zero, add-one, arith, eq-eqb, ne_eqb, le-leb, lt-ltb, le-ltb}
 use native.Mathlib.Decide.{ℕ_discrete, dec_le, dec_lt}
 use borrow.Author.Tests.{lt-leb}
 use Rattle.std.specs.List.{position_or_len}
 use Rattle.std.proofs.lemmas.List.{drop_more}
 use Rattle.std.proofs.lemmas.List.Quantifiers.{position-Some}
-use Rattle.columns.specs.Field.{field_width, space, in_range, digits, start, spaced, field_read}
-use Rattle.columns.proofs.FieldAgain.{digits_more, start_digit, spaced_digit}
+use Rattle.columns.specs.Field.{field_width, space, in_range, digits, first_digit, spaced, field_read}
+use Rattle.columns.proofs.FieldAgain.{digits_more, first_digit_is, spaced_digit}
 
 -- ---- digits
 
@@ -24,16 +24,17 @@ pub record DigitsTo (s : List ℕ) (v i : ℕ) : Type 0 where
   pub small : v < 10 ^ i
   pub same : digits 0 s ≡ digits v (drop i s)
 
-pub digits_next : (s : List ℕ) (v i r : ℕ) → i < length s → 48 ≤ get_or s i 0 → get_or s i 0 ≤ 57 → r ≡ get_or s i 0 - 48 → DigitsTo s v i → DigitsTo s (v * 10 + r) (i + 1)
-digits_next s v i r h low high e d =
+pub digits_next : (s : List ℕ) (v i r : ℕ) → i < length s → ((48 ≤ get_or s i 0) × (get_or s i 0 ≤ 57)) × (r ≡ get_or s i 0 - 48) → DigitsTo s v i → DigitsTo s (v * 10 + r) (i + 1)
+digits_next s v i r h digit d =
     let small : v < 10 ^ i = d.small in
+    let one : r ≤ 9 = omega (arith, digit.0.1, digit.1) in
     record {
       small = rw (add-one i, pow-suc 10 i) (omega arith);
       same =
           d.same
           ∙ ap (digits v) (drop_more s i 0 h)
-          ∙ digits_more v (get_or s i 0) (drop (i + 1) s) low high
-          ∙ ap (λ (m : ℕ). digits (v * 10 + m) (drop (i + 1) s)) (sym e);
+          ∙ digits_more v (get_or s i 0) (drop (i + 1) s) digit.0.0 digit.0.1
+          ∙ ap (λ (m : ℕ). digits (v * 10 + m) (drop (i + 1) s)) (sym digit.1);
     }
 
 pub digits_stop : (s : List ℕ) (v i : ℕ) → i < length s → ((48 ≤ get_or s i 0) × (get_or s i 0 ≤ 57) → ⊥) → DigitsTo s v i → digits 0 s ≡ None
@@ -104,15 +105,21 @@ module _ (s : List ℕ) (h : length s ≡ field_width) where
       subst (NumberIs s) (sym all) whole
 
 -- a first 0 and more digits
-pub plain_leading : (s n : List ℕ) → NumberIs s n → get_or n 0 0 ≡ 48 → 1 < length n → field_read s ≡ None
-unfolding start
-plain_leading s [] d z more = absurd (omega arith)
-plain_leading s (b ∷ []) d z more = absurd (omega arith)
-plain_leading s (b ∷ a ∷ n) d z more = d.is ∙ spaced_digit b (a ∷ n) d.first ∙ simp (eq-eqb b 48 z)
+leading_zero : (s n : List ℕ) → NumberIs s n → get_or n 0 0 ≡ 48 → 1 < length n → None ≡ field_read s
+unfolding first_digit
+leading_zero s [] d z more = absurd (omega arith)
+leading_zero s (b ∷ []) d z more = absurd (omega arith)
+leading_zero s (b ∷ a ∷ n) d z more = sym (d.is ∙ spaced_digit b (a ∷ n) d.first ∙ simp (eq-eqb b 48 z))
+
+pub plain_leading : (s : List ℕ) → length s ≡ field_width → (i : ℕ) → Some i ≡ position no_space s →
+    get_or (take (field_width - i) (drop i s)) 0 0 ≡ 48 →
+    1 < length (take (field_width - i) (drop i s)) →
+    None ≡ field_read s
+plain_leading s h i e z more = leading_zero s _ (number_from s h i e) z more
 
 -- what is read of the field is what the digits write
 pub plain_digits : (s n : List ℕ) → NumberIs s n → (get_or n 0 0 ≡ 48 → 1 < length n → ⊥) → field_read s ≡ digits 0 n
-unfolding start
+unfolding first_digit
 plain_digits s [] d q = absurd (omega (arith, d.some))
 plain_digits s (b ∷ []) d q = d.is ∙ spaced_digit b [] d.first
-plain_digits s (b ∷ a ∷ n) d q = d.is ∙ spaced_digit b (a ∷ n) d.first ∙ start_digit b (a ∷ n) (λ z. q z (omega arith))
+plain_digits s (b ∷ a ∷ n) d q = d.is ∙ spaced_digit b (a ∷ n) d.first ∙ first_digit_is b (a ∷ n) (λ z. q z (omega arith))

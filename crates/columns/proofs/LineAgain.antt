@@ -1,4 +1,4 @@
--- A line of numbers is read as these numbers, a line that is read is theirs, and a line over its limit is broken. Assumes nothing.
+-- A line of numbers is read as these numbers, a line that is read is theirs, and a line over its limit is broken.
 use Rattle.std.proofs.Common.{◌≡◌, ℕ, zero, suc, ◌+◌, ◌*◌, ◌/◌, ◌%◌, ◌<◌, ◌≤◌, true, false, List, [], ◌∷◌, ◌++◌, length, get_or, take, drop, sym, refl, ap, ◌∙◌, arith, length-drop, take-append-drop, length-take, length-take-le, take_at, drop_at, le-ltb, lt-ltb, eq-eqb, ne_eqb, le-leb, Option, Some, None}
 use native.Mathlib.Decide.{ℕ_discrete, dec_le}
 use mathlib.Core.Bool.{and-false}
@@ -11,9 +11,9 @@ use Rattle.columns.proofs.Writing.{length_line}
 -- ---- lengths
 
 module _ (limit n : ℕ) where
-  pub length_ok_lem : 0 < n → n % field_width ≡ 0 → n ≤ field_width * limit → length_ok limit n ≡ true
+  pub length_right : 0 < n → n % field_width ≡ 0 → n ≤ field_width * limit → length_ok limit n ≡ true
   unfolding length_ok
-  length_ok_lem some whole most = simp (lt-ltb 0 n some, eq-eqb (n % field_width) 0 whole, le-leb n (field_width * limit) most)
+  length_right some whole most = simp (lt-ltb 0 n some, eq-eqb (n % field_width) 0 whole, le-leb n (field_width * limit) most)
 
   -- "length 0"
   pub length_none : n ≡ 0 → length_ok limit n ≡ false
@@ -33,7 +33,7 @@ module _ (limit n : ℕ) where
 module _ (limit : ℕ) (s : List ℕ) where
   pub within_ok : 0 < length s → length s % field_width ≡ 0 → length s ≤ field_width * limit → read_within limit s ≡ fields (length s / field_width) s
   unfolding read_within
-  within_ok some whole most = simp (length_ok_lem limit (length s) some whole most)
+  within_ok some whole most = simp (length_right limit (length s) some whole most)
 
   pub within_bad : length_ok limit (length s) ≡ false → read_within limit s ≡ None
   unfolding read_within
@@ -64,7 +64,7 @@ fields_again (n ∷ ns) r =
     ap (λ (f : Option ℕ). before f (fields (length ns) (drop field_width (field_of n ++ line_of ns)))) field
     ∙ ap (onto n) rest
 
--- "Sheet numbers written are the numbers read again", of a line
+-- numbers that are written as a line are read again
 pub line_again : (limit : ℕ) (ns : List ℕ) → 0 < length ns → length ns ≤ limit → InRange ns → read_within limit (line_of ns) ≡ Some ns
 line_again limit ns some most r =
     let long : length (line_of ns) ≡ field_width * length ns = length_line ns in

@@ -1,4 +1,4 @@
--- What the line reader answers and leaves in its array. Assumes nothing.
+-- What the line reader answers and leaves in its array is what the line says.
 use Rattle.std.proofs.Common.{◌≡◌, ℕ, zero, suc, ◌*◌, ◌/◌, ◌<◌, ◌≤◌, true, false, List, ◌∷◌, length, take, drop, sym, refl, ap, ◌∙◌, arith, length-append, le-ltb, lt-ltb, le-leb, Option, Some, None, Result, Ok, Err}
 use native.Mathlib.Decide.{dec_le}
 use mathlib.Core.Bool.{and-false}
@@ -7,8 +7,8 @@ use borrow.Author.Tests.{lt-leb}
 use Rattle.columns.specs.declared.line.LineError.{LineError}
 use Rattle.columns.specs.declared.line.LineError.TheVariants.{Broken, NoRoom}
 use Rattle.columns.specs.Field.{field_width, field_read}
-use Rattle.columns.specs.Line.{fields, length_ok, read_within, count_of, line_answer, up_to, leading, over, numbers_over}
-use Rattle.columns.proofs.LineAgain.{length_ok_lem, length_long, within_ok, Before, before_is, IsLine, line_only}
+use Rattle.columns.specs.Line.{fields, length_ok, read_within, count_answer, line_answer, up_to, leading, over, numbers_over}
+use Rattle.columns.proofs.LineAgain.{length_right, length_long, within_ok, Before, before_is, IsLine, line_only}
 use Rattle.columns.proofs.Writing.{length_line}
 
 -- ---- by the line's length and the places
@@ -33,7 +33,7 @@ module _ (limit : ℕ) (s a : List ℕ) where
   few_over few = simp (lt-leb (length s / field_width) (length a) few, and-false)
 
   -- room for every field
-  pub room_answer : length_ok limit (length s) ≡ true → length s / field_width ≤ length a → line_answer limit s (length a) ≡ count_of (fields (length s / field_width) s)
+  pub room_answer : length_ok limit (length s) ≡ true → length s / field_width ≤ length a → line_answer limit s (length a) ≡ count_answer (fields (length s / field_width) s)
   unfolding line_answer read_within
   room_answer ok room = simp (ok, le-ltb (length a) (length s / field_width) room)
 
@@ -44,7 +44,7 @@ module _ (limit : ℕ) (s a : List ℕ) where
 -- ---- by what the line says
 
 -- as many places as the limit are enough
-pub enough : (limit : ℕ) (s : List ℕ) (places : ℕ) → limit ≤ places → line_answer limit s places ≡ count_of (read_within limit s)
+pub enough : (limit : ℕ) (s : List ℕ) (places : ℕ) → limit ≤ places → line_answer limit s places ≡ count_answer (read_within limit s)
 unfolding line_answer
 enough limit s places h =
     elim (dec_le (length s) (field_width * limit)) [
@@ -70,7 +70,7 @@ over_read limit s a ns h e =
     let long : length s ≡ field_width * length ns = ap length l.is ∙ length_line ns in
     let some : 0 < length ns = l.some in
     let most : length ns ≤ limit = l.most in
-    let ok : length_ok limit (length s) ≡ true = length_ok_lem limit (length s) (omega arith) (omega arith) (omega arith) in
+    let ok : length_ok limit (length s) ≡ true = length_right limit (length s) (omega arith) (omega arith) (omega arith) in
     let all : fields (length s / field_width) s ≡ Some ns = sym (within_ok limit s (omega arith) (omega arith) (omega arith)) ∙ e in
     room_over limit s a ok (omega arith) ∙ ap (λ (l : List ℕ). over l a) (leading_read (length s / field_width) s ns all)
 
@@ -90,11 +90,11 @@ into limit s a ns b n e k o =
       among = omega (arith, long, length-append ns (drop (length ns) a), k);
     }
 
-counted : (limit : ℕ) (s a : List ℕ) (n : ℕ) (x : Option (List ℕ)) → limit ≤ length a → read_within limit s ≡ x → count_of x ≡ Ok n → ReadInto limit s (numbers_over limit s a) n
+counted : (limit : ℕ) (s a : List ℕ) (n : ℕ) (x : Option (List ℕ)) → limit ≤ length a → read_within limit s ≡ x → count_answer x ≡ Ok n → ReadInto limit s (numbers_over limit s a) n
 counted limit s a n (Some ns) h e k = let same : length ns ≡ n = cc in into limit s a ns (numbers_over limit s a) n e same (over_read limit s a ns h e)
 counted limit s a n None h e k = cc
 
-not_counted : (x : Option (List ℕ)) → ((n : ℕ) → count_of x ≡ Ok n → ⊥) → x ≡ None
+not_counted : (x : Option (List ℕ)) → ((n : ℕ) → count_answer x ≡ Ok n → ⊥) → x ≡ None
 not_counted (Some ns) none = absurd (none (length ns) refl)
 not_counted None none = refl
 
@@ -112,7 +112,7 @@ unfoldable pub reading_of : Result ℕ LineError → List ℕ → Option (List �
 reading_of (Ok k) a = Some (take k a)
 reading_of (Err e) a = None
 
-reading_by : (limit : ℕ) (s a : List ℕ) (x : Option (List ℕ)) → limit ≤ length a → read_within limit s ≡ x → reading_of (count_of x) (numbers_over limit s a) ≡ x
+reading_by : (limit : ℕ) (s a : List ℕ) (x : Option (List ℕ)) → limit ≤ length a → read_within limit s ≡ x → reading_of (count_answer x) (numbers_over limit s a) ≡ x
 unfolding reading_of
 reading_by limit s a (Some ns) h e =
     ap (λ (b : List ℕ). Some (take (length ns) b)) (over_read limit s a ns h e) ∙ ap Some (take-append_seam ns (drop (length ns) a))

@@ -1,4 +1,4 @@
--- The turns of the line reader's loop. Assumes nothing.
+-- A turn of the line reader's loop reads one field more into the array, and at a bad field the numbers before it stand there.
 use Rattle.std.proofs.Common.{◌≡◌, ℕ, zero, suc, ◌+◌, ◌-◌, ◌*◌, ◌<◌, ◌≤◌, List, [], ◌∷◌, ◌++◌, length, get_or, take, drop, set, sym, refl, ap, ◌∙◌, append_assoc, append-nil, add_comm, add-one, arith, length-set, take-append-drop, length-take-le, drop-drop, take-suc-set, drop-set-lt, Option, Some, None}
 use Rattle.std.specs.Simd.{first_chunks}
 use Rattle.columns.specs.Field.{field_width, field_read}
@@ -58,9 +58,9 @@ over_first b a ns k e h r =
 module _ (l : List ℕ) (count : ℕ) (b a : List ℕ) (k : ℕ) (t : ReadTo l count b a k) (room : count ≤ length b) where
   module _ (h : k < count) where
     -- what is left is a field and the rest
-    read_one : leading count l ≡ take k a ++ up_to (field_read (take field_width (drop (field_width * k) l))) (leading (count - (k + 1)) (drop (field_width * (k + 1)) l))
+    left_is : leading count l ≡ take k a ++ up_to (field_read (take field_width (drop (field_width * k) l))) (leading (count - (k + 1)) (drop (field_width * (k + 1)) l))
     unfolding leading
-    read_one =
+    left_is =
         let one : count - k ≡ suc (count - (k + 1)) = omega arith in
         let more : field_width * k + field_width ≡ field_width * (k + 1) = omega arith in
         let f : Option ℕ = field_read (take field_width (drop (field_width * k) l)) in
@@ -78,7 +78,7 @@ module _ (l : List ℕ) (count : ℕ) (b a : List ℕ) (k : ℕ) (t : ReadTo l c
         sym (take-suc-set a k v (omega arith)) ∙ ap (λ (m : ℕ). take m (set a k v)) (sym (add-one k)) in
         record {
           same =
-              read_one
+              left_is
               ∙ ap (λ (f : Option ℕ). take k a ++ up_to f rest) e
               ∙ sym (append_assoc (take k a) (v ∷ []) rest)
               ∙ ap (λ (ns : List ℕ). ns ++ rest) front;
@@ -96,7 +96,7 @@ module _ (l : List ℕ) (count : ℕ) (b a : List ℕ) (k : ℕ) (t : ReadTo l c
     read_bad e =
         let long : length a ≡ length b = t.long in
         let all : leading count l ≡ take k a =
-        read_one
+        left_is
         ∙ ap (λ (f : Option ℕ). take k a ++ up_to f (leading (count - (k + 1)) (drop (field_width * (k + 1)) l))) e
         ∙ append-nil (take k a) in
         let o : (length (leading count l) ≡ k) × (a ≡ over (leading count l) b) = over_first b a (leading count l) k all (omega arith) t.rest in

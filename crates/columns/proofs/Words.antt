@@ -1,11 +1,11 @@
--- Eight bytes as one number: that they are digits, and the number that they write. Assumes nothing.
+-- Eight bytes as one number are tested to be digits, and three steps join them to the number that they write.
 use Rattle.std.proofs.Common.{◌≡◌, ℕ, zero, ◌+◌, ◌-◌, ◌*◌, ◌/◌, ◌%◌, ◌^◌, ◌<◌, ◌≤◌, suc, List, [], ◌∷◌, ◌++◌, length, get_or, take, drop, sym, refl, ap, ◌∙◌, subst, mul_assoc, mul_comm, pow-suc, add-zero, arith, take-append-drop, length-take-le, drop_of_length-le, length-drop, eq-eqb, Some, w64}
 use lib.Bits.{bit_and, and_block, and_high, and_mask}
 use Rattle.std.specs.Int.{to_le_bytes, from_le_bytes}
 use Rattle.std.proofs.lemmas.Nat.{le_bytes_8}
 use Rattle.std.proofs.lemmas.List.{drop_more}
-use Rattle.columns.specs.Field.{field_width, space, in_range, digits, start, spaced, field_read, spaces}
-use Rattle.columns.proofs.FieldAgain.{digits_more, digits_after, start_digit, spaced_digit, spaced_pass}
+use Rattle.columns.specs.Field.{field_width, space, in_range, digits, first_digit, spaced, field_read, spaces}
+use Rattle.columns.proofs.FieldAgain.{digits_more, digits_after, first_digit_is, spaced_digit, spaced_pass}
 use Rattle.columns.proofs.FieldTurns.{field_spaced}
 
 -- ---- bytes
@@ -280,14 +280,14 @@ pub lead_one : (b r : ℕ) → 48 < b → b ≤ 57 → r ≡ b - 48 → (s : Lis
 unfolding spaced
 lead_one b r low high is s =
     let one : 0 * 10 + (b - 48) ≡ r = omega arith in
-    spaced_digit b s (λ q. omega arith) ∙ start_digit b s (λ q. omega arith) ∙ digits_more 0 b s (omega arith) (omega arith) ∙ ap (λ (v : ℕ). digits v s) one
+    spaced_digit b s (λ q. omega arith) ∙ first_digit_is b s (λ q. omega arith) ∙ digits_more 0 b s (omega arith) (omega arith) ∙ ap (λ (v : ℕ). digits v s) one
 
 -- two digits in front of further ones
 pub lead_two : (a b t o : ℕ) → 48 < a → a ≤ 57 → t ≡ a - 48 → 48 ≤ b → b ≤ 57 → o ≡ b - 48 → (s : List ℕ) → spaced (a ∷ b ∷ s) ≡ digits (t * 10 + o) s
 lead_two a b t o low high is k j next s =
     let two : (0 * 10 + (a - 48)) * 10 + (b - 48) ≡ t * 10 + o = omega arith in
     spaced_digit a (b ∷ s) (λ q. omega arith)
-    ∙ start_digit a (b ∷ s) (λ q. omega arith)
+    ∙ first_digit_is a (b ∷ s) (λ q. omega arith)
     ∙ digits_more 0 a (b ∷ s) (omega arith) (omega arith)
     ∙ digits_more (0 * 10 + (a - 48)) b s (omega arith) (omega arith)
     ∙ ap (λ (v : ℕ). digits v s) two
@@ -305,7 +305,7 @@ module _ (l : List ℕ) (h : length l ≡ field_width) where
   -- one digit behind ten spaces
   pub field_one : ((i : ℕ) → get_or l i 0 < 256) → (f : List ℕ) → f ≡ take 8 l → (w : ℕ) → w ≡ from_le_bytes w64 f → w ≡ 2314885530818453536
       → get_or l 8 0 ≡ space → get_or l 9 0 ≡ space → (r : ℕ) → 48 ≤ get_or l 10 0 → get_or l 10 0 ≤ 57 → r ≡ get_or l 10 0 - 48 → in_range r ≡ field_read l
-  unfolding spaced start digits
+  unfolding spaced first_digit digits
   field_one byte f part w e eight first second r low high is =
       let b : ℕ = get_or l 10 0 in
       let one : 0 * 10 + (b - 48) ≡ r = omega arith in

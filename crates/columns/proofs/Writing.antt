@@ -1,10 +1,10 @@
--- Bytes put into a buffer at a place, and the turns of the writers' loops. Assumes nothing.
+-- What the writers have put into a buffer after a turn of their loops is the fields of the numbers so far.
 use Rattle.std.proofs.Common.{◌≡◌, ℕ, zero, suc, ◌+◌, ◌-◌, ◌*◌, ◌/◌, ◌%◌, ◌^◌, ◌<◌, ◌≤◌, ◌≢◌, List, [], ◌∷◌, ◌++◌, length, get_or, take, drop, set, sym, refl, ap, ◌∙◌, append_assoc, append-nil, mul_assoc, mul_comm, pow-suc, add-one, arith, length-append, length-drop, drop_of_length-le, length-take-le, drop-cons, take-suc, drop-drop, take_at, le-ltb, lt-ltb}
 use native.Mathlib.Nat.{mul-le-mul_right}
 use lib.ListN.{length-replicate}
 use borrow.Rule.Slice.PartMut.{put_mid}
 use lib.Seq.{set_at, take-length, drop-append-add}
-use Rattle.columns.specs.Field.{field_width, pad, columns, field_of, spaces, put}
+use Rattle.columns.specs.Field.{field_width, space, columns, field_of, spaces, put}
 use Rattle.columns.specs.Line.{line_of, written_over, over, put_over}
 use Rattle.columns.proofs.FieldAgain.{spaces_one, columns_none, columns_more, length_field}
 
@@ -71,7 +71,7 @@ store : (j : ℕ) (last : List ℕ) (b : ℕ) → set (spaces (suc j) ++ last) j
 store j last b =
     ap (λ (l : List ℕ). set (l ++ last) j b) (spaces_one j)
     ∙ ap (λ (l : List ℕ). set l j b) (append_assoc (spaces j) (spaces 1) last)
-    ∙ set_at (spaces j) pad last b j (length-replicate j pad)
+    ∙ set_at (spaces j) space last b j (length-replicate j space)
 
 pub partly_first : (n : ℕ) → Partly (spaces field_width) n 0 n
 unfolding field_of
@@ -267,18 +267,16 @@ wrote_next d ns out f k h room e w =
       long = ap length part ∙ length_put out (field_width * k) f (omega arith) ∙ long;
     }
 
-pub wrote_last : (d ns out : List ℕ) (k : ℕ) → k ≡ length ns → Wrote d ns out k → out ≡ line_of ns ++ drop (field_width * length ns) d
-wrote_last d ns out k e w =
-    w.is
-    ∙ ap (λ (m : ℕ). line_of (take m ns) ++ drop (field_width * m) d) e
-    ∙ ap (λ (l : List ℕ). line_of l ++ drop (field_width * length ns) d) (take-length ns)
-
 -- without room nothing is written
 pub no_room : (ns out : List ℕ) → length out / field_width < length ns → out ≡ written_over ns out
 unfolding written_over
 no_room ns out h = simp (lt-ltb (length out) (field_width * length ns) (omega arith))
 
--- with room the fields are written
-pub room : (ns out : List ℕ) → length ns ≤ length out / field_width → line_of ns ++ drop (field_width * length ns) out ≡ written_over ns out
+-- with room all fields are
+pub wrote_all : (d ns out : List ℕ) (k : ℕ) → k ≡ length ns → length ns ≤ length d / field_width → Wrote d ns out k → out ≡ written_over ns d
 unfolding written_over
-room ns out h = simp (le-ltb (length out) (field_width * length ns) (omega arith))
+wrote_all d ns out k e h w =
+    simp (le-ltb (length d) (field_width * length ns) (omega arith))
+    (w.is
+    ∙ ap (λ (m : ℕ). line_of (take m ns) ++ drop (field_width * m) d) e
+    ∙ ap (λ (l : List ℕ). line_of l ++ drop (field_width * length ns) d) (take-length ns))

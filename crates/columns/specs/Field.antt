@@ -9,6 +9,7 @@ field_width = 11
 abbrev pub number_limit : ℕ
 number_limit = 4294967296
 
+-- the byte in front of a number's digits
 abbrev pub space : ℕ
 space = 32
 
@@ -22,14 +23,14 @@ digits v [] = in_range v
 digits v (b ∷ s) = cond (nat_le 48 b) (cond (nat_le b 57) (digits (v * 10 + (b - 48)) s) None) None
 
 -- the first byte that is no space: "no leading zeros", but for the number 0 itself
-unfoldable pub start : ℕ → List ℕ → Option ℕ
-start b [] = digits 0 (b ∷ [])
-start b (a ∷ s) = cond (b == 48) None (digits 0 (b ∷ a ∷ s))
+unfoldable pub first_digit : ℕ → List ℕ → Option ℕ
+first_digit b [] = digits 0 (b ∷ [])
+first_digit b (a ∷ s) = cond (b == 48) None (digits 0 (b ∷ a ∷ s))
 
 -- "right-justified in spaces"
 unfoldable pub spaced : List ℕ → Option ℕ
 spaced [] = None
-spaced (b ∷ s) = cond (b == space) (spaced s) (start b s)
+spaced (b ∷ s) = cond (b == space) (spaced s) (first_digit b s)
 
 -- what the bytes of a field say
 unfoldable pub field_read : List ℕ → Option ℕ
@@ -39,13 +40,9 @@ field_read s = cond (length s == field_width) (spaced s) None
 unfoldable pub kind_of : List ℕ → Option ℕ
 kind_of line = field_read (take field_width line)
 
--- the byte in front of a number's digits
-abbrev pub pad : ℕ
-pad = space
-
 -- the last digit of what is left of a number, or a space where nothing is left
 unfoldable pub column : ℕ → ℕ
-column n = cond (n == 0) pad (48 + n % 10)
+column n = cond (n == 0) space (48 + n % 10)
 
 -- the last k columns of what is left of a number
 unfoldable pub columns : ℕ → ℕ → List ℕ
@@ -58,7 +55,7 @@ field_of n = columns (field_width - 1) (n / 10) ++ ((48 + n % 10) ∷ [])
 
 -- k spaces
 abbrev pub spaces : ℕ → List ℕ
-spaces k = replicate k pad
+spaces k = replicate k space
 
 -- d with the bytes s from place `at` on
 unfoldable pub put : List ℕ → ℕ → List ℕ → List ℕ

@@ -1,6 +1,5 @@
 -- A line of document 01's sheet: the numbers of its fields, or refusal 2.
-use Rattle.std.specs.Prelude.{ℕ, zero, suc, ◌+◌, ◌*◌, ◌/◌, ◌%◌, ◌^◌, ◌<◌, Bool, cond, ◌&&◌, Option, Some, None, Result, Ok, Err, List, [], ◌∷◌, ◌++◌, length, take, drop, ◌==◌, from_bits, nat_le, nat_lt, slice_index, Float}
-use Rattle.std.specs.Float.{binary32}
+use Rattle.std.specs.Prelude.{ℕ, zero, suc, ◌+◌, ◌*◌, ◌/◌, ◌%◌, ◌^◌, ◌<◌, Bool, cond, ◌&&◌, Option, Some, None, Result, Ok, Err, List, [], ◌∷◌, ◌++◌, length, take, drop, ◌==◌, nat_le, nat_lt}
 use Rattle.columns.specs.declared.line.LineError.{LineError}
 use Rattle.columns.specs.declared.line.LineError.TheVariants.{Broken, NoRoom}
 use Rattle.columns.specs.Field.{field_width, field_read, field_of, put}
@@ -45,31 +44,19 @@ line_of (n ∷ ns) = field_of n ++ line_of ns
 unfoldable pub written_over : List ℕ → List ℕ → List ℕ
 written_over ns out = cond (nat_lt (length out) (field_width * length ns)) out (line_of ns ++ drop (field_width * length ns) out)
 
--- number k of a line, counted from 0
-abbrev pub number_at : List ℕ → ℕ → ℕ
-number_at ns k = slice_index ns k
-
--- "Floats are their bits as a number."
-abbrev pub float_at : List ℕ → ℕ → Float
-float_at ns k = from_bits binary32 (number_at ns k)
-
--- a flag is 0 or 1
-abbrev pub flag_at_of : List ℕ → ℕ → Bool
-flag_at_of ns k = number_at ns k == 1
-
 -- "0..4294967295", of each number
 abbrev pub InRange : List ℕ → Type 0
 InRange [] = Unit
 InRange (n ∷ ns) = (n < 2 ^ 32) × InRange ns
 
 -- the answer to a reading: how many numbers, or refusal 2
-abbrev pub count_of : Option (List ℕ) → Result ℕ LineError
-count_of (Some ns) = Ok (length ns)
-count_of None = Err Broken
+abbrev pub count_answer : Option (List ℕ) → Result ℕ LineError
+count_answer (Some ns) = Ok (length ns)
+count_answer None = Err Broken
 
 -- what `read_line` answers with so many places: how many numbers, refusal 2, or that the places are fewer than the fields of a line whose length is right
 unfoldable pub line_answer : ℕ → List ℕ → ℕ → Result ℕ LineError
-line_answer limit s places = cond (length_ok limit (length s) && nat_lt places (length s / field_width)) (Err NoRoom) (count_of (read_within limit s))
+line_answer limit s places = cond (length_ok limit (length s) && nat_lt places (length s / field_width)) (Err NoRoom) (count_answer (read_within limit s))
 
 -- a field's number in front of others: none from "a bad field" on
 unfoldable pub up_to : Option ℕ → List ℕ → List ℕ

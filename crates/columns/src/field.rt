@@ -41,6 +41,7 @@ fn start_of(field: &[u8; FIELD]) -> Option<usize>
 }
 
 // The number of a field, read byte by byte, in range or not. No `parse`: it takes a sign and leading zeros. By itself, so that the loop of the faster readers stays short (docs/SPEED.md).
+#[tactic(auto, using(crate::proofs::FieldTurns::plain_none, crate::proofs::FieldTurns::number_from, crate::proofs::FieldTurns::plain_leading, crate::proofs::FieldTurns::plain_digits, crate::proofs::FieldTurns::digits_stop, crate::proofs::FieldTurns::digits_last))]
 #[inline(never)]
 fn read_plain(field: &[u8; FIELD]) -> Option<u64>
     ensures { option_and_then in_range result ≡ field_read field.now }
@@ -58,6 +59,7 @@ fn read_plain(field: &[u8; FIELD]) -> Option<u64>
 }
 
 // The number that eight digits write: digits are joined to pairs, pairs to fours, and fours to the number.
+#[tactic(auto, using(crate::proofs::Words::eight_most, crate::proofs::Words::eight_digits, crate::proofs::Words::eight_small, crate::proofs::FieldAgain::in_range_some))]
 fn read_eight(bytes: &[u8; 8]) -> Option<u64>
     ensures { IfSome result (λ v. (v < 10 ^ 8) × (digits 0 bytes.now ≡ Some v)) }
 {
@@ -72,23 +74,25 @@ fn read_eight(bytes: &[u8; 8]) -> Option<u64>
 }
 
 // The number of a digit that may begin a number: any but 0.
-fn first_digit(b: u8) -> Option<u64>
+fn nonzero_digit(b: u8) -> Option<u64>
     ensures { SomeIff result ((48 < b) × (b ≤ 57)) (b - 48) }
 {
     digit(b).filter(|d| *d != 0)
 }
 
 // The number that `a` and `b` write in front of further digits: two digits, or a digit behind a space.
+#[tactic(auto, using(crate::proofs::Words::lead_one, crate::proofs::Words::lead_two))]
 fn lead(a: u8, b: u8) -> Option<u64>
     ensures { IfSome result (λ v. (v < 100) × ((s : List ℕ) → spaced (a ∷ b ∷ s) ≡ digits v s)) }
 {
     if a == b' ' {
-        return first_digit(b);
+        return nonzero_digit(b);
     }
-    Some(first_digit(a)? * 10 + digit(b)?)
+    Some(nonzero_digit(a)? * 10 + digit(b)?)
 }
 
 // The number of a field of nine or ten digits, in range or not.
+#[tactic(auto, using(crate::proofs::Words::field_long))]
 fn read_long(field: &[u8; FIELD]) -> Option<u64>
     ensures { IfSome result (λ v. in_range v ≡ field_read field.now) }
 {
@@ -112,6 +116,7 @@ fn read_one(field: &[u8; FIELD]) -> Option<u64>
 }
 
 // What a field says: the commonest forms first.
+#[tactic(auto, unfolding(crate::specs::Field::in_range))]
 pub(crate) fn read_field(field: &[u8; FIELD]) -> Option<u32>
     ensures { result ≡ field_read field.now }
 {
@@ -122,6 +127,7 @@ pub(crate) fn read_field(field: &[u8; FIELD]) -> Option<u32>
 }
 
 // What bytes that are to be one field say.
+#[tactic(auto, unfolding(crate::specs::Field::field_read))]
 pub fn read_field_of(field: &[u8]) -> Option<u32>
     ensures { result ≡ field_read field.now }
 {
@@ -129,6 +135,7 @@ pub fn read_field_of(field: &[u8]) -> Option<u32>
 }
 
 // What a line's first field says.
+#[tactic(auto, unfolding(crate::specs::Field::kind_of), using(crate::proofs::LineAgain::kind_short))]
 pub fn read_kind(line: &[u8]) -> Option<u32>
     ensures { result ≡ kind_of line.now }
 {
@@ -166,6 +173,7 @@ fn write_field(field: &mut [u8], n: u32)
 }
 
 // A field for each number, from the start on, where the buffer has room for all of them; else nothing.
+#[tactic(auto, using(crate::proofs::Writing::no_room, crate::proofs::Writing::wrote_first, crate::proofs::Writing::wrote_next, crate::proofs::Writing::wrote_all))]
 pub fn write_numbers(out: &mut [u8], numbers: &[u32])
     ensures { out.new ≡ written_over numbers.now out.old }
 {

@@ -29,6 +29,7 @@ impl fmt::Display for LineError {
 impl Error for LineError {}
 
 // How many numbers a line has that may have so many fields: they are in the array, from its start on, as far as the first bad field.
+#[tactic(auto, using(crate::proofs::LineAgain::length_right, crate::proofs::LineAgain::length_none, crate::proofs::LineAgain::length_uneven, crate::proofs::LineAgain::length_long, crate::proofs::LineOver::bad_answer, crate::proofs::LineOver::bad_over, crate::proofs::LineOver::few_answer, crate::proofs::LineOver::few_over))]
 pub fn read_line(line: &[u8], limit: usize, numbers: &mut [u32]) -> Result<usize, LineError>
     ensures value { result ≡ line_answer limit line.now (length numbers.old) }
     ensures numbers_after { numbers.new ≡ numbers_over limit line.now numbers.old }
@@ -51,6 +52,7 @@ pub fn read_line(line: &[u8], limit: usize, numbers: &mut [u32]) -> Result<usize
 }
 
 // These numbers in the array, from `at` on, where it has room for all of them; else nothing.
+#[tactic(auto, using(crate::proofs::Writing::put_short, crate::proofs::Writing::put_part, crate::proofs::Writing::put_room))]
 pub fn put_numbers(numbers: &mut [u32], at: usize, part: &[u32])
     ensures { numbers.new ≡ put_over at part.now numbers.old }
 {

@@ -1,2 +1,2 @@
 mod Draining
-mod Reading
+mod ReadParts

@@ -2,8 +2,8 @@
 #![tactic(auto)]
 
 ghost use Rattle.std.specs.Prelude.{◌≤◌, ◌<◌, ◌≡◌, [], length, take, IfOk};
-ghost use Rattle.sheet.specs.Lines.{kept_width, whole, joined, last_line, states_after};
-ghost use Rattle.sheet.specs.Many.{after_line, answers_over};
+ghost use Rattle.sheet.specs.Lines.{kept_width, whole_lines, joined_lines, last_line};
+ghost use Rattle.sheet.specs.Many.{states_after, answers_over};
 ghost use Rattle.daysheet.specs.Reader.{ReadsAll};
 
 use falcon_core::supervisor::Supervisor;
@@ -68,14 +68,15 @@ fn write(output: &mut Stdout, out: &[u8; ROOM], n: usize) -> Result<(), Failure>
 }
 
 // Answers every line that a newline ends, a buffer of answers at a time.
+#[tactic(auto, using(sheet::proofs::Replies::progress_written, crate::proofs::Draining::used_fits))]
 fn drain(
     output: &mut Stdout,
     s: Supervisor,
     input: &[u8],
     out: &mut [u8; ROOM],
 ) -> Result<Drained, Failure>
-    ensures supervisor { IfOk result (λ d. d.supervisor ≡ states_after after_line s (whole input.now)) }
-    ensures used { IfOk result (λ d. d.used ≡ length (joined (whole input.now))) }
+    ensures supervisor { IfOk result (λ d. d.supervisor ≡ states_after s (whole_lines input.now)) }
+    ensures used { IfOk result (λ d. d.used ≡ length (joined_lines (whole_lines input.now))) }
 {
     let mut supervisor = s;
     let mut used = 0;
@@ -120,13 +121,14 @@ fn read_all(
 
 // Answers a last line without newline, where there is one. A newline is put behind the line and not `answer_last` called: what a line goes through then
 // has one caller and is inlined into the loop over the lines (docs/SPEED.md).
+#[tactic(auto, using(crate::proofs::Draining::finish_none, crate::proofs::Draining::finish_one, sheet::proofs::Replies::progress_written))]
 fn finish(
     output: &mut Stdout,
     begun: Begun,
     buf: &mut [u8; ROOM],
     out: &mut [u8; ROOM],
 ) -> Result<(), Failure>
-    requires { whole (take begun.have buf.old) ≡ [] }
+    requires { whole_lines (take begun.have buf.old) ≡ [] }
     ensures { out.new ≡ answers_over begun.supervisor (last_line (take begun.have buf.old)) out.old }
 {
     let have = begun.have;
@@ -139,6 +141,7 @@ fn finish(
 }
 
 // A line begun is answered at the input's end alone: where a read fails nobody knows how it goes on.
+#[tactic(auto, using(crate::proofs::ReadParts::reads_bare))]
 fn answer_all(rt: &HostRuntime) -> Result<(), Failure> {
     let mut buf = [0; ROOM];
     let mut out = [0; ROOM];

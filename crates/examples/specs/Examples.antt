@@ -1,7 +1,7 @@
--- Document 01's twelve rows marked P: what the definitions give, as a number, beside what the paper says.
-use Rattle.std.specs.Prelude.{ℕ, ◌+◌, ◌^◌, Bool, true, false, cond, ◌&&◌, List, [], ◌∷◌, eqb, Float}
-use Rattle.std.specs.Float.{nan, binary32}
-use Rattle.std.specs.Float.Ieee.{of_bits, to_bits}
+-- The twelve rows of document 01 that are marked P: what the definitions give, as a number, beside what the paper says.
+use Rattle.std.specs.Prelude.{ℕ, ◌+◌, ◌^◌, Bool, true, false, ◌&&◌, List, [], ◌∷◌, eqb}
+use Rattle.std.specs.Float.{nan}
+use Rattle.relay_math.specs.Small.{f32, f32_zero, bits, flag_number}
 use Rattle.relay_math.specs.Root.{root}
 use Rattle.relay_batt.specs.Curve.{sanitize_of, ocv_soc_cell_of}
 use Rattle.relay_fsm.specs.declared.Mode.TheVariants.{Takeoff, Loiter, Land, Rtl}
@@ -14,10 +14,10 @@ use Rattle.relay_fsafe.specs.declared.Triggers.{Triggers}
 use Rattle.relay_fsafe.specs.Fsafe.{severity_of, policy_action_of}
 use Rattle.relay_preflight.specs.declared.CheckId.TheVariants.{MotorsHealthy, BatteryTakeoffMargin}
 use Rattle.relay_preflight.specs.Check.{check_number}
-use Rattle.relay_preflight.specs.Table.{new_of}
+use Rattle.relay_preflight.specs.Table.{new_table_of}
 use Rattle.relay_preflight.specs.Verdict.{first_blocker_of, blocker_number}
-use Rattle.falcon_guidance.specs.declared.state.Config.{Config}
-use Rattle.falcon_guidance.specs.State.{point_of}
+use Rattle.falcon_state.specs.declared.config.Config.{Config}
+use Rattle.falcon_state.specs.Point.{point_of, origin}
 use Rattle.falcon_guidance.specs.Mission.{waypoint_admissible_of}
 
 -- a row: what is computed, and what is expected
@@ -25,17 +25,8 @@ pub record Row : Type 0 where
   pub computed : ℕ
   pub expected : ℕ
 
-abbrev pub row : ℕ → ℕ → Row
-row n m = record { computed = n; expected = m }
-
-abbrev pub float : ℕ → Float
-float b = of_bits binary32 b
-
-abbrev pub bits : Float → ℕ
-bits x = to_bits binary32 x
-
-abbrev pub flag : Bool → ℕ
-flag b = cond b 1 0
+abbrev pub expects : ℕ → ℕ → Row
+expects n m = record { computed = n; expected = m }
 
 -- gates that are open but for the position
 abbrev pub gates : Bool → Gates
@@ -58,10 +49,10 @@ stale_and_low =
 abbrev pub home_and_fence : Config
 home_and_fence =
     record {
-      home = point_of (float 0) (float 0) (float 0);
-      fence_radius = float 0x42c8_0000;
-      cruise_alt = float 0;
-      low_batt_v = float 0;
+      home = origin;
+      fence_radius = f32 0x42c8_0000;
+      cruise_alt = f32_zero;
+      low_batt_v = f32_zero;
       calibration_configured = false;
     }
 
@@ -70,18 +61,18 @@ home_and_fence =
 -- BatteryTakeoffMargin blocked names 19; home 0, fence 100, point (0, 0, -120) passes; (0, 0, -0.5) doesn't
 unfoldable pub rows : List Row
 rows =
-    row (bits (root (float 0x4080_0000))) 0x4000_0000
-    ∷ row (bits (root (float 0x8000_0000))) 0x8000_0000
-    ∷ row (bits (root (float 0xbf80_0000))) 0x7fc0_0000
-    ∷ row (bits (sanitize_of nan (float 0) (float 0x4270_0000) (float 0))) 0
-    ∷ row (bits (ocv_soc_cell_of (float 0x4060_0000))) 0
-    ∷ row (mode_number (on_of Takeoff RequestLand (gates true))) (mode_number Takeoff)
-    ∷ row (mode_number (on_of Rtl Failsafe (gates true))) (mode_number Land)
-    ∷ row (mode_number (on_of Loiter Failsafe (gates false))) (mode_number Land)
-    ∷ row (severity_of (policy_action_of stale_and_low)) (severity_of action.Rtl)
-    ∷ row (blocker_number (first_blocker_of (new_of (2 ^ check_number MotorsHealthy + 2 ^ check_number BatteryTakeoffMargin) 0))) 19
-    ∷ row (flag (waypoint_admissible_of home_and_fence (point_of (float 0) (float 0) (float 0xc2f0_0000)))) 1
-    ∷ row (flag (waypoint_admissible_of home_and_fence (point_of (float 0) (float 0) (float 0xbf00_0000)))) 0
+    expects (bits (root (f32 0x4080_0000))) 0x4000_0000
+    ∷ expects (bits (root (f32 0x8000_0000))) 0x8000_0000
+    ∷ expects (bits (root (f32 0xbf80_0000))) 0x7fc0_0000
+    ∷ expects (bits (sanitize_of nan f32_zero (f32 0x4270_0000) f32_zero)) 0
+    ∷ expects (bits (ocv_soc_cell_of (f32 0x4060_0000))) 0
+    ∷ expects (mode_number (on_of Takeoff RequestLand (gates true))) (mode_number Takeoff)
+    ∷ expects (mode_number (on_of Rtl Failsafe (gates true))) (mode_number Land)
+    ∷ expects (mode_number (on_of Loiter Failsafe (gates false))) (mode_number Land)
+    ∷ expects (severity_of (policy_action_of stale_and_low)) (severity_of action.Rtl)
+    ∷ expects (blocker_number (first_blocker_of (new_table_of (2 ^ check_number MotorsHealthy + 2 ^ check_number BatteryTakeoffMargin) 0))) 19
+    ∷ expects (flag_number (waypoint_admissible_of home_and_fence (point_of f32_zero f32_zero (f32 0xc2f0_0000)))) 1
+    ∷ expects (flag_number (waypoint_admissible_of home_and_fence (point_of f32_zero f32_zero (f32 0xbf00_0000)))) 0
     ∷ []
 
 -- every row computes what it expects

@@ -7,7 +7,7 @@ use Rattle.relay_fsm.specs.declared.Gates.{Gates}
 use Rattle.relay_fsm.specs.Mode.{mode_number, mode_at, is_airborne_of, rank_of}
 use Rattle.relay_fsm.specs.Event.{event_at}
 use Rattle.relay_fsm.specs.Fsm.{on_of}
-use Rattle.relay_math.specs.Small.{flag}
+use Rattle.relay_math.specs.Small.{flag_number}
 use Rattle.exports.specs.Numbers.{unknown, bit}
 
 -- the gates by the four lowest bits, in the order of the Rust's fields
@@ -30,4 +30,4 @@ rank_number m = option_map_or rank_of (mode_at m) unknown
 
 -- `Mode::is_airborne` by numbers
 unfoldable pub airborne_number : ℕ → ℕ
-airborne_number m = option_map_or (λ m. flag (is_airborne_of m)) (mode_at m) unknown
+airborne_number m = option_map_or (λ m. flag_number (is_airborne_of m)) (mode_at m) unknown

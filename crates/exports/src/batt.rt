@@ -2,8 +2,8 @@
 
 ghost use Rattle.std.specs.Prelude.{◌≡◌, ◌<◌};
 ghost use Rattle.relay_batt.specs.Numbers.{estimator_by, state_by};
-ghost use Rattle.exports.specs.Batt.{config_from_of, latch_from_of, behind_pack, battery_from_of, reading_from_of, new_from, opened_for, update_from_of};
-ghost use Rattle.exports.specs.Batt.{size, config_numbers_of, short_number, stored_of};
+ghost use Rattle.exports.specs.Batt.{pack_from_of, latch_from_of, behind_pack, battery_by_numbers, reading_by_numbers, new_from, opened_for, update_from_of};
+ghost use Rattle.exports.specs.Batt.{size, pack_numbers_of, short_number, stored_battery_of};
 
 use crate::numbers::{float, is_one, number};
 use relay_batt::numbers::{estimator_numbers, silence_numbers, state_numbers};
@@ -14,9 +14,9 @@ use relay_math::{from_bits, to_bits};
 const SIZE: usize = 29;
 
 // The pack of numbers 0 to 7.
-#[tactic(auto, unfolding(crate::specs::Batt::config_from_of))]
-fn config_from(ns: &[u32]) -> BattConfig
-    ensures { result ≡ config_from_of ns.now }
+#[tactic(auto, unfolding(crate::specs::Batt::pack_from_of))]
+fn pack_from(ns: &[u32]) -> BattConfig
+    ensures { result ≡ pack_from_of ns.now }
 {
     BattConfig {
         capacity_mah: float(ns, 0),
@@ -45,10 +45,10 @@ fn latch_from(ns: &[u32], i: usize) -> TripLatch
 // The estimator of numbers 0 to 16.
 #[tactic(auto, unfolding(relay_batt::specs::Numbers::estimator_by, crate::specs::Batt::latch_from_of))]
 fn estimator_from(ns: &[u32]) -> BatteryEstimator
-    ensures { result ≡ estimator_by (config_from_of ns.now) (behind_pack ns.now) }
+    ensures { result ≡ estimator_by (pack_from_of ns.now) (behind_pack ns.now) }
 {
     BatteryEstimator {
-        cfg: config_from(ns),
+        cfg: pack_from(ns),
         consumed_mah: float(ns, 8),
         r_est: float(ns, 9),
         prev_v: float(ns, 10),
@@ -78,9 +78,9 @@ fn state_from(ns: &[u32]) -> BattState
 }
 
 // The battery of all 29 numbers.
-#[tactic(auto, unfolding(crate::specs::Batt::battery_from_of, relay_batt::specs::Numbers::battery_by))]
+#[tactic(auto, unfolding(crate::specs::Batt::battery_by_numbers, relay_batt::specs::Numbers::battery_by))]
 fn battery_from(ns: &[u32]) -> Battery
-    ensures { result ≡ battery_from_of ns.now }
+    ensures { result ≡ battery_by_numbers ns.now }
 {
     Battery {
         est: estimator_from(ns),
@@ -92,9 +92,9 @@ fn battery_from(ns: &[u32]) -> Battery
 }
 
 // What was read: 0 nothing, 1 volts, any other kind volts and amps. Three numbers and no struct: C hands them over.
-#[tactic(auto, unfolding(crate::specs::Batt::reading_from_of))]
+#[tactic(auto, unfolding(crate::specs::Batt::reading_by_numbers))]
 fn reading_from(kind: u32, volts: u32, amps: u32) -> Reading
-    ensures { result ≡ reading_from_of kind volts amps }
+    ensures { result ≡ reading_by_numbers kind volts amps }
 {
     match kind {
         0 => Reading::Nothing,
@@ -117,9 +117,9 @@ fn update_from(ns: &[u32], dt: u32, kind: u32, volts: u32, amps: u32) -> Battery
 }
 
 // The pack's numbers.
-#[tactic(auto, unfolding(crate::specs::Batt::config_numbers_of))]
-fn config_numbers(c: BattConfig) -> [u32; 8]
-    ensures { result ≡ config_numbers_of c }
+#[tactic(auto, unfolding(crate::specs::Batt::pack_numbers_of))]
+fn pack_numbers(c: BattConfig) -> [u32; 8]
+    ensures { result ≡ pack_numbers_of c }
 {
     [
         to_bits(c.capacity_mah),
@@ -134,15 +134,15 @@ fn config_numbers(c: BattConfig) -> [u32; 8]
 }
 
 // Stores a battery's numbers, from the start on. Answers C's number: 0, or 1 where the slice has under 29 numbers, and then nothing changes.
-#[tactic(auto, using(crate::proofs::Stored::parts_whole), unfolding(crate::specs::Batt::short_number, crate::specs::Batt::stored_of))]
+#[tactic(auto, using(crate::proofs::Stored::parts_whole), unfolding(crate::specs::Batt::short_number, crate::specs::Batt::stored_battery_of))]
 fn store(numbers: &mut [u32], b: Battery) -> u32
     ensures answer { result ≡ short_number numbers.old }
-    ensures stored { numbers.new ≡ stored_of numbers.old b }
+    ensures stored { numbers.new ≡ stored_battery_of numbers.old b }
 {
     if numbers.len() < SIZE {
         return 1;
     }
-    numbers[..8].copy_from_slice(&config_numbers(b.est.cfg));
+    numbers[..8].copy_from_slice(&pack_numbers(b.est.cfg));
     numbers[8..17].copy_from_slice(&estimator_numbers(b.est));
     numbers[17..26].copy_from_slice(&state_numbers(b.state));
     numbers[26..SIZE].copy_from_slice(&silence_numbers(b));
@@ -154,9 +154,9 @@ fn store(numbers: &mut [u32], b: Battery) -> u32
 #[unsafe(no_mangle)]
 pub extern "C" fn bartsemmo_battery_new(numbers: &mut [u32]) -> u32
     ensures answer { result ≡ short_number numbers.old }
-    ensures stored { numbers.new ≡ stored_of numbers.old (new_from numbers.old) }
+    ensures stored { numbers.new ≡ stored_battery_of numbers.old (new_from numbers.old) }
 {
-    let battery = Battery::new(config_from(numbers));
+    let battery = Battery::new(pack_from(numbers));
     store(numbers, battery)
 }
 
@@ -165,7 +165,7 @@ pub extern "C" fn bartsemmo_battery_new(numbers: &mut [u32]) -> u32
 #[unsafe(no_mangle)]
 pub extern "C" fn bartsemmo_battery_opened(numbers: &mut [u32], cells: u32, volts: u32) -> u32
     ensures answer { result ≡ short_number numbers.old }
-    ensures stored { numbers.new ≡ stored_of numbers.old (opened_for cells volts) }
+    ensures stored { numbers.new ≡ stored_battery_of numbers.old (opened_for cells volts) }
 {
     store(
         numbers,
@@ -183,7 +183,7 @@ pub extern "C" fn bartsemmo_battery_update(
     amps: u32,
 ) -> u32
     ensures answer { result ≡ short_number numbers.old }
-    ensures stored { numbers.new ≡ stored_of numbers.old (update_from_of numbers.old dt kind volts amps) }
+    ensures stored { numbers.new ≡ stored_battery_of numbers.old (update_from_of numbers.old dt kind volts amps) }
 {
     let battery = update_from(numbers, dt, kind, volts, amps);
     store(numbers, battery)

@@ -1,7 +1,7 @@
 // The check table, by its two masks, which may have any bits.
 
 ghost use Rattle.std.specs.Prelude.{◌≡◌};
-ghost use Rattle.relay_preflight.specs.Table.{new_of, outstanding_of};
+ghost use Rattle.relay_preflight.specs.Table.{new_table_of, outstanding_of};
 ghost use Rattle.relay_preflight.specs.Verdict.{first_blocker_of, blocker_number};
 ghost use Rattle.exports.specs.Checks.{masks, set_masks};
 
@@ -28,7 +28,7 @@ pub extern "C" fn bartsemmo_set(required: u32, passed: u32, id: u32, pass: u32) 
 // `CheckTable::outstanding`.
 #[unsafe(no_mangle)]
 pub extern "C" fn bartsemmo_outstanding(required: u32, passed: u32) -> u32
-    ensures { result ≡ outstanding_of (new_of required passed) }
+    ensures { result ≡ outstanding_of (new_table_of required passed) }
 {
     CheckTable::new(required, passed).outstanding()
 }
@@ -36,7 +36,7 @@ pub extern "C" fn bartsemmo_outstanding(required: u32, passed: u32) -> u32
 // The number of `arm_check_table`'s blocker, 21 if none.
 #[unsafe(no_mangle)]
 pub extern "C" fn bartsemmo_blocker(required: u32, passed: u32) -> u32
-    ensures { result ≡ blocker_number (first_blocker_of (new_of required passed)) }
+    ensures { result ≡ blocker_number (first_blocker_of (new_table_of required passed)) }
 {
     CheckId::blocker_number(arm_check_table(CheckTable::new(required, passed)))
 }

@@ -1,7 +1,8 @@
 // Flags, bits and floats as numbers.
 
-ghost use Rattle.std.specs.Prelude.{◌≡◌, ◌<◌, get_or};
-ghost use Rattle.exports.specs.Numbers.{bit, float_at, flag_at_of};
+ghost use Rattle.std.specs.Prelude.{◌≡◌, ◌<◌};
+ghost use Rattle.relay_math.specs.Small.{number_at, float_at, flag_at};
+ghost use Rattle.exports.specs.Numbers.{bit};
 
 use relay_math::from_bits;
 
@@ -18,7 +19,7 @@ pub(crate) fn is_set(n: u32, power: u32) -> bool
 
 // The number at a place, 0 beyond the end.
 pub fn number(ns: &[u32], i: usize) -> u32
-    ensures { result ≡ get_or ns.now i 0 }
+    ensures { result ≡ number_at ns.now i }
 {
     ns.get(i).copied().unwrap_or(0)
 }
@@ -32,7 +33,7 @@ pub fn float(ns: &[u32], i: usize) -> f32
 
 // The flag at a place: 1 is true, any other number false.
 pub fn is_one(ns: &[u32], i: usize) -> bool
-    ensures { result ≡ flag_at_of ns.now i }
+    ensures { result ≡ flag_at ns.now i }
 {
     number(ns, i) == 1
 }

@@ -3,23 +3,22 @@ use mathlib.Core.Bool.{Bool}
 use mathlib.Core.Path.{◌≡◌, refl}
 use Rattle.std.specs.Prelude.{Option, Some, None}
 use Rattle.relay_fsm.specs.declared.Event.{Event}
-use Rattle.falcon_guidance.specs.declared.state.Legs.{Legs}
-use Rattle.falcon_guidance.specs.declared.state.Tick.{Tick}
+use Rattle.falcon_state.specs.declared.mission.Legs.{Legs}
+use Rattle.falcon_state.specs.declared.tick.Tick.{Tick}
 use Rattle.falcon_core.specs.declared.refusal.Refusal.{Refusal}
 use Rattle.falcon_core.specs.declared.supervisor.Supervisor.{Supervisor}
-use Rattle.falcon_core.specs.declared.calls.Flown.{Flown}
-use Rattle.falcon_core.specs.declared.calls.FlownAnswered.{FlownAnswered}
+use Rattle.falcon_core.specs.declared.flown.Flown.{Flown}
+use Rattle.falcon_core.specs.declared.flown.FlownAnswered.{FlownAnswered}
 use Rattle.falcon_core.specs.Calls.{Request, opens, ticks, reports, commands, plans, is_report, shape_refusal, sequence_refusal_of, state_refusal, refusal_of, legs_in, flight_after, waypoints_after, output_of, totals_after, after_of}
-use Rattle.falcon_core.specs.Calls.{refused_of, accepted_of, step_of, flown_refused_of, flown_accepted_of, no_legs, flight_step_of, flown_of, beside_of}
+use Rattle.falcon_core.specs.Calls.{refused_of, accepted_of, step_of}
+use Rattle.falcon_core.specs.Flown.{flown_refused_of, flown_accepted_of, no_legs, flight_step_of, flown_of, beside_of}
 use Rattle.falcon_core.proofs.Answers.{step_refused, step_accepted}
 
 -- a tick, a report or a command
 abbrev Flying : Request → Type 0
 Flying (opens o) = ⊥
-Flying (ticks t) = Unit {0}
-Flying (reports failed) = Unit {0}
-Flying (commands ev level low) = Unit {0}
 Flying (plans p) = ⊥
+Flying r = Unit {0}
 
 module _ (s : Supervisor) where
   flown_by :
@@ -29,13 +28,9 @@ module _ (s : Supervisor) where
       beside_of s (flight_step_of (flown_of s) (legs_in s) r) ≡ step_of s r
   unfolding flight_step_of refusal_of shape_refusal state_refusal flown_refused_of flown_accepted_of refused_of accepted_of after_of flight_after waypoints_after output_of totals_after
   flown_by (opens o) x k e = absurd k
-  flown_by (ticks t) None k e = rw (step_accepted s (ticks t) (rw e), e)
-  flown_by (ticks t) (Some x) k e = rw (step_refused s (ticks t) x (rw e), e)
-  flown_by (reports failed) None k e = rw (step_accepted s (reports failed) (rw e), e)
-  flown_by (reports failed) (Some x) k e = rw (step_refused s (reports failed) x (rw e), e)
-  flown_by (commands ev level low) None k e = rw (step_accepted s (commands ev level low) (rw e), e)
-  flown_by (commands ev level low) (Some x) k e = rw (step_refused s (commands ev level low) x (rw e), e)
   flown_by (plans p) x k e = absurd k
+  flown_by r None k e = rw (step_accepted s r (rw e), e)
+  flown_by r (Some x) k e = rw (step_refused s r x (rw e), e)
 
   -- a tick leaves the waypoints, and of the rest what the flight's tick does
   pub tick_beside :

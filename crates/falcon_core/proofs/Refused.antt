@@ -1,40 +1,24 @@
--- What a refusal keeps and answers, and what acceptance tells.
+-- What a refusal keeps, and what acceptance tells.
 use mathlib.Core.Bool.{Bool, true, false, cond}
 use mathlib.Core.Path.{◌≡◌, refl, ap}
 use Rattle.std.specs.Prelude.{Option, Some, None, Ok, Err}
 use Rattle.std.specs.Option.{option_or, option_map_or}
-use Rattle.relay_preflight.specs.Table.{outstanding_of}
-use Rattle.relay_preflight.specs.Verdict.{first_blocker_of}
 use Rattle.falcon_core.specs.declared.supervisor.Supervisor.{Supervisor}
-use Rattle.falcon_core.specs.declared.calls.Output.{Output}
-use Rattle.falcon_core.specs.declared.calls.Output.TheVariants.{Totals, Record}
-use Rattle.falcon_core.specs.declared.calls.Answered.{Answered}
+use Rattle.falcon_core.specs.declared.answer.Output.{Output}
+use Rattle.falcon_core.specs.declared.answer.Output.TheVariants.{Totals, Record}
+use Rattle.falcon_core.specs.declared.supervisor.Answered.{Answered}
 use Rattle.falcon_core.specs.declared.refusal.Refusal.{Refusal}
 use Rattle.falcon_core.specs.declared.refusal.Refusal.TheVariants.{NoOpening, ReportDue, NoReportDue, Inadmissible}
-use Rattle.falcon_core.specs.Refusals.{refusal_number}
-use Rattle.falcon_core.specs.Calls.{Request, Planning, plans, totals, saves, planned_of, settled_of, miscounted, masks_too_large, is_opening, is_report, point_refused, refused_where, legs_in, output_of, shape_refusal, sequence_refusal_of, state_refusal, refusal_of, after_of, answer_of, refused_of, accepted_of, step_of}
+use Rattle.falcon_core.specs.Calls.{Request, Planning, plans, totals, saves, planned_of, waypoints_after, settled_of, miscounted, masks_too_large, is_opening, is_report, point_refused, refused_where, output_of, shape_refusal, sequence_refusal_of, state_refusal, refusal_of, after_of, refused_of, accepted_of, step_of}
 use Rattle.falcon_core.proofs.Answers.{step_refused, step_accepted, planned_step, Telling, tells_totals, tells_state}
 
 -- ---- refused calls
 
 module _ (s : Supervisor) (r : Request) where
-  -- a refused call is answered with its refusal, the mode, the outstanding checks and the blocker as they are and nothing else, and keeps the state
-  pub refused_is : (e : Refusal) → refusal_of s r ≡ Some e → step_of s r ≡ record { supervisor = s; answer = record { outcome = Err e; mode = s.flight.fsm.mode; outstanding = outstanding_of s.flight.check_table; blocker = first_blocker_of s.flight.check_table } }
-  unfolding refused_of answer_of
-  refused_is e h = step_refused s r e h
-
   -- "A refusal keeps the state"
   pub refused_keeps : (e : Refusal) → refusal_of s r ≡ Some e → (step_of s r).supervisor ≡ s
-  refused_keeps e h = ap (λ (a : Answered). a.supervisor) (refused_is e h)
-
-  answered_by_lem : (o : Option Refusal) → refusal_of s r ≡ o → (step_of s r).answer.outcome ≡ option_map_or Err o (Ok (output_of s.flight (legs_in s) r))
-  unfolding refused_of accepted_of answer_of
-  answered_by_lem None e = rw (step_accepted s r e)
-  answered_by_lem (Some n) e = rw (step_refused s r n e)
-
-  -- the refusal that fits is the one answered, and what an accepted call answers where none does
-  pub refusal_answered : (step_of s r).answer.outcome ≡ option_map_or Err (refusal_of s r) (Ok (output_of s.flight (legs_in s) r))
-  refusal_answered = answered_by_lem (refusal_of s r) refl
+  unfolding refused_of
+  refused_keeps e h = ap (λ (a : Answered). a.supervisor) (step_refused s r e h)
 
   after_by : (P : Supervisor → Type 0) (o : Option Refusal) → refusal_of s r ≡ o → P s → (refusal_of s r ≡ None → P (after_of s r)) → P (step_of s r).supervisor
   unfolding refused_of accepted_of
@@ -59,23 +43,23 @@ neither (Some n) p e = cc
 
 -- none of the table's tests fits
 pub record Passed (s : Supervisor) (r : Request) : Type 0 where
-  pub counted : miscounted r ≡ false
-  pub in_range_lem : masks_too_large r ≡ false
+  pub right_count : miscounted r ≡ false
+  pub in_range : masks_too_large r ≡ false
   pub in_sequence : cond (is_opening r) None (sequence_refusal_of s.opened s.report_due (is_report r)) ≡ None
-  pub admissible : point_refused s r ≡ false
+  pub admissible : point_refused s.flight r ≡ false
 
 pub accepted_passed : (s : Supervisor) (r : Request) → refusal_of s r ≡ None → Passed s r
 unfolding refusal_of shape_refusal state_refusal
 accepted_passed s r e =
     let a = neither (shape_refusal r) (state_refusal s r) e in
     let b = neither _ _ a.0 in
-    let d = neither (cond (is_opening r) None (sequence_refusal_of s.opened s.report_due (is_report r))) (refused_where (point_refused s r) Inadmissible) a.1 in
-    record { counted = unfit _ _ b.0; in_range_lem = unfit _ _ b.1; in_sequence = d.0; admissible = unfit _ _ d.1 }
+    let d = neither (cond (is_opening r) None (sequence_refusal_of s.opened s.report_due (is_report r))) (refused_where (point_refused s.flight r) Inadmissible) a.1 in
+    record { right_count = unfit _ _ b.0; in_range = unfit _ _ b.1; in_sequence = d.0; admissible = unfit _ _ d.1 }
 
--- "a call that no refusal fits is accepted"
+-- a call that none of them fits is accepted
 pub passed_accepted : (s : Supervisor) (r : Request) → Passed s r → refusal_of s r ≡ None
 unfolding refusal_of shape_refusal state_refusal
-passed_accepted s r p = rw (p.counted, p.in_range_lem, p.in_sequence, p.admissible)
+passed_accepted s r p = rw (p.right_count, p.in_range, p.in_sequence, p.admissible)
 
 kept_from : (s : Supervisor) (out : Output) (o : Option Refusal) → (settled_of s (option_map_or Err o (Ok (s, out)))).supervisor ≡ s
 unfolding refused_of accepted_of
@@ -84,7 +68,7 @@ kept_from s out (Some e) = refl
 
 -- a call for the totals or for the state keeps the whole state, accepted or refused
 pub told_keeps : (s : Supervisor) (p : Planning) (out : Output) → Telling p out → (step_of s (plans p)).supervisor ≡ s
-unfolding planned_of
+unfolding planned_of waypoints_after output_of
 told_keeps s _ _ tells_totals = rw (planned_step s totals) (kept_from s Totals _)
 told_keeps s _ _ tells_state = rw (planned_step s saves) (kept_from s Record _)
 
@@ -96,7 +80,3 @@ pub sequence_table :
     × ((sequence_refusal_of true true false ≡ Some ReportDue) × ((sequence_refusal_of true false true ≡ Some NoReportDue) × ((sequence_refusal_of true true true ≡ None) × (sequence_refusal_of true false false ≡ None))))
 unfolding sequence_refusal_of
 sequence_table = ((λ due report. refl), (refl, (refl, (refl, refl))))
-
--- and their numbers
-pub sequence_numbers : (refusal_number NoOpening ≡ 1) × ((refusal_number ReportDue ≡ 6) × (refusal_number NoReportDue ≡ 7))
-sequence_numbers = (refl, (refl, refl))

@@ -1,231 +1,173 @@
--- `sound_of` is true of every sound state, and of f32 values it says no less than the record.
-use Prim.Native.Nat.{ℕ, zero, suc, ◌≤◌, ◌<◌}
-use native.Mathlib.Nat.{not-suc-le-zero}
+-- Every sound state passes `sound_supervisor_of`, every state of f32 values that passes it is sound, and so every call keeps the test true.
+use Prim.Native.Nat.{ℕ, ◌+◌, ◌-◌, ◌≤◌, ◌<◌}
 use native.Mathlib.Decide.{dec_lt}
 use native.Mathlib.Omega.{arith}
-use mathlib.Core.Bool.{Bool, true, ◌&&◌, ◌||◌}
-use mathlib.Core.List.{List, [], ◌∷◌}
+use mathlib.Core.Bool.{Bool, true, ◌||◌}
+use mathlib.Core.List.{List}
 use mathlib.Core.Logic.{inl, inr}
-use mathlib.Core.Path.{◌≡◌, sym, ap, ◌∙◌}
-use lib.Dec.{T, eqb, ltb, leb, eqb→eq, ltb→lt, lt→ltb, leb→le, le→leb}
-use lib.ListN.{length, get_or}
-use lib.Ieee.{Float, binary32, of_bits, to_bits}
-use lib.Ieee.Bits.{of_bits-to_bits, is_true}
-use lib.Ieee.Fits.{and_i, and_l, and_r, eq→eqb}
+use mathlib.Core.Path.{◌≡◌, refl, sym, ap, ◌∙◌}
+use lib.Dec.{T, ltb, leb}
+use lib.ListN.{length, get_or, take, drop}
+use lib.Ieee.{of_bits, to_bits}
+use lib.Ieee.Bits.{is_true}
+use Rattle.std.specs.List.{list_all}
+use Rattle.std.proofs.lemmas.Bool.{and_from, and_parts, or_left, or_right, or_cases, lt-ltb, ltb-true, le-leb, leb-true, eq-eqb, eqb-true}
+use Rattle.std.proofs.lemmas.Float.{T_from_true}
+use Rattle.std.proofs.lemmas.List.{length-take, length-drop, get_or-take, get_or-drop, get_or_default}
+use Rattle.std.proofs.lemmas.List.Sums.{AllPass-from_list_all, list_all-from_AllPass}
 use Rattle.relay_fsm.specs.declared.Mode.{Mode}
 use Rattle.relay_fsm.specs.declared.Mode.TheVariants.{Terminated}
 use Rattle.relay_fsm.specs.Mode.{is_mode}
-use Rattle.relay_fsm.proofs.Finite.{either, is_mode→eq, eq→is_mode}
-use Rattle.relay_preflight.specs.declared.CheckTable.{CheckTable}
+use Rattle.relay_fsm.proofs.Finite.{is_mode→eq, eq→is_mode}
 use Rattle.relay_preflight.specs.Table.{mask_limit}
-use Rattle.relay_batt.specs.Bounds.{all}
-use Rattle.relay_batt.specs.Fits.{Fit}
-use Rattle.relay_batt.specs.Sound.{sound_of as batterySoundOf}
-use Rattle.relay_batt.proofs.SoundTest.{sound_test as battery-test, test_sound as battery_back}
-use Rattle.falcon_guidance.specs.declared.state.Point.{Point}
-use Rattle.falcon_guidance.specs.declared.state.Zone.{Zone}
-use Rattle.falcon_guidance.specs.declared.state.Config.{Config}
-use Rattle.falcon_guidance.specs.declared.state.Mission.{Mission}
-use Rattle.falcon_guidance.specs.declared.state.Zones.{Zones}
-use Rattle.falcon_core.specs.declared.supervisor.Supervisor.{Supervisor}
-use Rattle.falcon_guidance.specs.State.{zerof, origin, no_zone, nowhere, max_waypoints, max_keepout_zones}
-use Rattle.falcon_core.specs.Supervisor.{unopened}
+use Rattle.relay_batt.proofs.SoundTest.{zero_back, sound_test as battery_test, test_sound as battery_back}
+use Rattle.falcon_state.specs.declared.point.Point.{Point}
+use Rattle.falcon_state.specs.declared.zone.Zone.{Zone}
+use Rattle.falcon_state.specs.Point.{origin, nowhere, max_waypoints}
+use Rattle.falcon_state.specs.Zone.{no_zone, no_place, max_keepout_zones}
 use Rattle.falcon_guidance.specs.Mission.{waypoint_admissible_of}
-use Rattle.falcon_guidance.specs.Zones.{no_place}
-use Rattle.falcon_failsafe.specs.Failsafe.{tilt_runaway_cycles}
+use Rattle.falcon_events.specs.Failsafe.{tilt_runaway_cycles}
+use Rattle.falcon_core.specs.declared.supervisor.Supervisor.{Supervisor}
 use Rattle.falcon_core.specs.Calls.{Request, step_of}
-use Rattle.falcon_core.specs.SoundState.{Tidy, each_below_of, checks_sound_of, counts_sound_of, points_sound_of, leg_sound_of, tilt_sound_of, zero_bits, zero_point, zero_zone, unused_sound, unused_sound_of, sound_tests, sound_of, SoundChecks, SoundMission, SoundZones, SoundTilt, SoundFlight, FitPoint, FitZone, FitFlight}
-use Rattle.falcon_core.proofs.Rules.{or_l, or_r}
-use Rattle.falcon_core.proofs.Invariant.{step_sound, unopened_sound}
+use Rattle.falcon_core.specs.SoundState.{limits_sound_of, points_sound_of, leg_sound_of, tilt_sound_of, zero_point, zero_zone, unused_sound_of, sound_supervisor_of, SoundTilt, SoundFlight, FitPoint, FitZone, FitFlight}
+use Rattle.falcon_core.proofs.Invariant.{step_sound}
 
--- ---- tests of every number and of every entry
+-- ---- the places, in use and not
 
-each_below : (test : ℕ → Bool) (n : ℕ) → ((i : ℕ) → i < n → T (test i)) → T (each_below_of test n)
-unfolding each_below_of
-each_below test zero h = tt
-each_below test (suc n) h = and_i (each_below_of test n) (test n) (each_below test n (λ i p. h i (omega arith))) (h n (omega arith))
+module _ {A : Type 0} (test : A → Bool) (d : A) (l : List A) (n : ℕ) where
+  used_test : n ≤ length l → ((i : ℕ) → i < n → test (get_or l i d) ≡ true) → list_all test (take n l) ≡ true
+  used_test few h =
+      list_all-from_AllPass test (take n l)
+      (λ i e p.
+      let q : i < n = omega (arith, length-take n l) in
+      ap test (get_or-take n l i e q ∙ get_or_default l i e d (omega arith)) ∙ h i q)
 
-below_each : (test : ℕ → Bool) (n : ℕ) → T (each_below_of test n) → (i : ℕ) → i < n → T (test i)
-unfolding each_below_of
-below_each test zero t i h = absurd (not-suc-le-zero h)
-below_each test (suc n) t i h =
-    elim (dec_lt i n) [
-      | yes p ↦ below_each test n (and_l (each_below_of test n) (test n) t) i p
-      | no q ↦ let e : n ≡ i = omega arith in rw (← e) (and_r (each_below_of test n) (test n) t)
-    ]
+  used_back : n ≤ length l → list_all test (take n l) ≡ true → (i : ℕ) → i < n → test (get_or l i d) ≡ true
+  used_back few t i p = ap test (sym (get_or-take n l i d p)) ∙ AllPass-from_list_all test (take n l) t i d (omega (arith, length-take n l))
 
-each : (l : List Bool) → T (all l) → (i : ℕ) → T (get_or l i true)
-each [] t i = tt
-each (b ∷ l) t zero = and_l b (all l) t
-each (b ∷ l) t (suc i) = each l (and_r b (all l) t) i
+  unused_test : ((i : ℕ) → n ≤ i → i < length l → test (get_or l i d) ≡ true) → list_all test (drop n l) ≡ true
+  unused_test h =
+      list_all-from_AllPass test (drop n l)
+      (λ i e p.
+      let q : n + i < length l = omega (arith, length-drop n l) in
+      ap test (get_or-drop n l i e ∙ get_or_default l (n + i) e d q) ∙ h (n + i) (omega arith) q)
 
--- ---- the places
+  unused_back : list_all test (drop n l) ≡ true → (i : ℕ) → n ≤ i → i < length l → test (get_or l i d) ≡ true
+  unused_back t i p q =
+      let k : i ≡ n + (i - n) = omega arith in
+      rw k (ap test (sym (get_or-drop n l (i - n) d)) ∙ AllPass-from_list_all test (drop n l) t (i - n) d (omega (arith, length-drop n l)))
 
-module _ {A : Type 0} (Held : A → Type 0) (test : A → Bool) (d z : A) (size : ℕ) (l : List A) (count : ℕ) where
-  unused_test : T (test z) → Tidy Held d z size l count → T (unused_sound test d size l count)
-  unused_test h k =
-      and_i (eqb (length l) size) _ (eq→eqb k.long)
-      (each_below (λ i. ltb i count || test (get_or l i d)) size
-      (λ i p.
-      elim (dec_lt i count) [
-        | yes q ↦ or_l (ltb i count) (test (get_or l i d)) (lt→ltb i count q)
-        | no q ↦ or_r (ltb i count) (test (get_or l i d)) (rw (k.beyond i (omega arith) p) h)
-      ]))
+origin_zero : zero_point origin ≡ true
+unfolding to_bits of_bits
+origin_zero = refl
 
-  unused_back :
-      ((i : ℕ) → T (test (get_or l i d)) → get_or l i d ≡ z) →
-      count ≤ size →
-      ((i : ℕ) → i < count → Held (get_or l i d)) →
-      T (unused_sound test d size l count) →
-      Tidy Held d z size l count
-  unused_back back few fit t = record {
-    long = eqb→eq (length l) size (and_l (eqb (length l) size) _ t);
-    few = few;
-    beyond = λ i p q.
-        elim (either (ltb i count) (test (get_or l i d)) (below_each (λ i. ltb i count || test (get_or l i d)) size (and_r (eqb (length l) size) _ t) i q)) [
-          | inl u ↦ absurd (omega (arith, ltb→lt i count u))
-          | inr u ↦ back i u
-        ];
-    fit = fit;
-  }
+no_zone_zero : zero_zone no_zone ≡ true
+unfolding to_bits of_bits
+no_zone_zero = refl
 
-zero_back : (x : Float) → Fit x → T (zero_bits x) → x ≡ zerof
-zero_back x h t = sym (of_bits-to_bits binary32 x h) ∙ ap (of_bits binary32) (eqb→eq (to_bits binary32 x) 0 t)
-
-origin_back : (p : Point) → FitPoint p → T (zero_point p) → p ≡ origin
+origin_back : (p : Point) → FitPoint p → zero_point p ≡ true → p ≡ origin
 origin_back p f t =
-    let yz = and_r (zero_bits p.x) (zero_bits p.y && zero_bits p.z) t in
-    λ i. record {
-      x = zero_back p.x f.x (and_l (zero_bits p.x) (zero_bits p.y && zero_bits p.z) t) i;
-      y = zero_back p.y f.y (and_l (zero_bits p.y) (zero_bits p.z) yz) i;
-      z = zero_back p.z f.z (and_r (zero_bits p.y) (zero_bits p.z) yz) i;
-    }
+    let xyz = and_parts _ _ t in
+    let xy = and_parts _ _ xyz.0 in
+    λ i. record { x = zero_back p.x f.x (T_from_true _ xy.0) i; y = zero_back p.y f.y (T_from_true _ xy.1) i; z = zero_back p.z f.z (T_from_true _ xyz.1) i }
 
-no_zone_back : (z : Zone) → FitZone z → T (zero_zone z) → z ≡ no_zone
+no_zone_back : (z : Zone) → FitZone z → zero_zone z ≡ true → z ≡ no_zone
 no_zone_back z f t =
-    λ i. record {
-      center = origin_back z.center f.center (and_l (zero_point z.center) (zero_bits z.radius) t) i;
-      radius = zero_back z.radius f.radius (and_r (zero_point z.center) (zero_bits z.radius) t) i;
-    }
+    let both = and_parts _ _ t in
+    λ i. record { center = origin_back z.center f.center both.0 i; radius = zero_back z.radius f.radius (T_from_true _ both.1) i }
 
-origin_zero : T (zero_point origin)
-unfolding to_bits of_bits
-origin_zero = tt
+-- ---- the tilt count
 
-no_zone_zero : T (zero_zone no_zone)
-unfolding to_bits of_bits
-no_zone_zero = tt
-
--- ---- sound states pass
-
-checks_test : (k : CheckTable) → SoundChecks k → T (checks_sound_of k)
-unfolding checks_sound_of
-checks_test k h = and_i (ltb k.required mask_limit) (ltb k.passed mask_limit) (lt→ltb _ _ h.required_below) (lt→ltb _ _ h.passed_below)
-
-counts_test : (c : Config) (ps : List Point) (m : Mission) (zs : Zones) → SoundMission c ps m → SoundZones zs → T (counts_sound_of m zs)
-unfolding counts_sound_of
-counts_test c ps m zs h k = and_i (leb m.wp_count max_waypoints) (leb zs.zone_count max_keepout_zones) (le→leb _ _ h.places.few) (le→leb _ _ k.few)
-
-points_test : (c : Config) (ps : List Point) (m : Mission) → SoundMission c ps m → T (points_sound_of c ps m)
-unfolding points_sound_of
-points_test c ps m h = each_below (λ i. waypoint_admissible_of c (get_or ps i nowhere)) m.wp_count h.places.fit
-
-leg_test : (c : Config) (ps : List Point) (m : Mission) → SoundMission c ps m → T (leg_sound_of m)
-unfolding leg_sound_of
-leg_test c ps m h = le→leb _ _ h.leg
-
-tilt_test : (m : Mode) (n : ℕ) → SoundTilt m n → T (tilt_sound_of m n)
+tilt_test : (m : Mode) (n : ℕ) → SoundTilt m n → tilt_sound_of m n ≡ true
 unfolding tilt_sound_of
 tilt_test m n h =
-    and_i (leb n tilt_runaway_cycles) (ltb n tilt_runaway_cycles || is_mode m Terminated) (le→leb n tilt_runaway_cycles h.at_most)
+    and_from _ _ (le-leb n tilt_runaway_cycles h.at_most)
     (elim (dec_lt n tilt_runaway_cycles) [
-      | yes p ↦ or_l (ltb n tilt_runaway_cycles) (is_mode m Terminated) (lt→ltb n tilt_runaway_cycles p)
-      | no q ↦ or_r (ltb n tilt_runaway_cycles) (is_mode m Terminated) (eq→is_mode m Terminated (h.ended (omega (arith, h.at_most))))
+      | yes p ↦ or_left _ _ (lt-ltb n tilt_runaway_cycles p)
+      | no q ↦ or_right _ _ (is_true _ (eq→is_mode m Terminated (h.ended (omega (arith, h.at_most)))))
     ])
 
-places_test : (c : Config) (ps : List Point) (m : Mission) (zs : Zones) → SoundMission c ps m → SoundZones zs → T (unused_sound_of ps m zs)
-unfolding unused_sound_of
-places_test c ps m zs h k =
-    and_i (unused_sound zero_point nowhere max_waypoints ps m.wp_count) _
-    (unused_test _ zero_point nowhere origin max_waypoints ps m.wp_count origin_zero h.places)
-    (unused_test _ zero_zone no_place no_zone max_keepout_zones zs.zones zs.zone_count no_zone_zero k)
-
--- a sound state passes every test
-pub sound_test : (s : Supervisor) → SoundFlight s.flight s.waypoints → T (sound_of s)
-unfolding sound_of
-sound_test s k =
-    let f = s.flight in
-    let ps = s.waypoints in
-    simp (
-      is_true (checks_sound_of f.check_table) (checks_test f.check_table k.checks),
-      is_true (counts_sound_of f.mission f.zones) (counts_test f.config ps f.mission f.zones k.mission k.zones),
-      is_true (points_sound_of f.config ps f.mission) (points_test f.config ps f.mission k.mission),
-      is_true (leg_sound_of f.mission) (leg_test f.config ps f.mission k.mission),
-      is_true (tilt_sound_of f.fsm.mode f.counts.runaway_count) (tilt_test f.fsm.mode f.counts.runaway_count k.tilt),
-      battery-test f.battery k.battery,
-      is_true (unused_sound_of ps f.mission f.zones) (places_test f.config ps f.mission f.zones k.mission k.zones),
-    ) tt
-
--- ---- and what passes is sound, its floats being f32 values
-
-checks_back : (k : CheckTable) → T (checks_sound_of k) → SoundChecks k
-unfolding checks_sound_of
-checks_back k t = record {
-  required_below = ltb→lt k.required mask_limit (and_l (ltb k.required mask_limit) (ltb k.passed mask_limit) t);
-  passed_below = ltb→lt k.passed mask_limit (and_r (ltb k.required mask_limit) (ltb k.passed mask_limit) t);
-}
-
-tilt_back : (m : Mode) (n : ℕ) → T (tilt_sound_of m n) → SoundTilt m n
+tilt_back : (m : Mode) (n : ℕ) → tilt_sound_of m n ≡ true → SoundTilt m n
 unfolding tilt_sound_of
 tilt_back m n t =
-    let below = ltb n tilt_runaway_cycles in
+    let a = and_parts (leb n tilt_runaway_cycles) (ltb n tilt_runaway_cycles || is_mode m Terminated) t in
     record {
-      at_most = leb→le n tilt_runaway_cycles (and_l (leb n tilt_runaway_cycles) (below || is_mode m Terminated) t);
+      at_most = leb-true n tilt_runaway_cycles a.0;
       ended = λ q.
-          elim (either below (is_mode m Terminated) (and_r (leb n tilt_runaway_cycles) (below || is_mode m Terminated) t)) [
-            | inl u ↦ absurd (omega (arith, ltb→lt n tilt_runaway_cycles u))
-            | inr u ↦ is_mode→eq m Terminated u
+          elim (or_cases (ltb n tilt_runaway_cycles) (is_mode m Terminated) a.1) [
+            | inl u ↦ absurd (omega (arith, ltb-true n tilt_runaway_cycles u))
+            | inr u ↦ is_mode→eq m Terminated (T_from_true _ u)
           ];
     }
 
--- what passes every test is a sound state
-pub test_sound : (s : Supervisor) → FitFlight s.flight s.waypoints → T (sound_of s) → SoundFlight s.flight s.waypoints
-unfolding sound_of counts_sound_of points_sound_of leg_sound_of unused_sound_of
-test_sound s f t =
-    let test = each (sound_tests s.flight s.waypoints) t in
-    let m = s.flight.mission in
+-- ---- the whole state
+
+-- a sound state passes every test
+pub sound_test : (s : Supervisor) → SoundFlight s.flight s.waypoints → T (sound_supervisor_of s)
+unfolding sound_supervisor_of limits_sound_of points_sound_of leg_sound_of unused_sound_of
+sound_test s k =
+    let f = s.flight in
     let ps = s.waypoints in
+    let m = f.mission in
+    let zs = f.zones in
+    let points = k.mission.places in
+    let zones = k.zones in
+    simp (
+      lt-ltb f.check_table.required mask_limit k.checks.required_below,
+      lt-ltb f.check_table.passed mask_limit k.checks.passed_below,
+      le-leb m.wp_count max_waypoints points.few,
+      le-leb zs.zone_count max_keepout_zones zones.few,
+      used_test (waypoint_admissible_of f.config) nowhere ps m.wp_count (omega (arith, points.few, points.long)) (λ i h. is_true _ (points.fit i h)),
+      le-leb m.wp_index (m.wp_count - 1) k.mission.leg,
+      tilt_test f.fsm.mode f.counts.runaway_count k.tilt,
+      battery_test f.battery k.battery,
+      eq-eqb (length ps) max_waypoints points.long,
+      unused_test zero_point nowhere ps m.wp_count (λ i p q. rw (points.beyond i p (omega (arith, points.long))) origin_zero),
+      eq-eqb (length zs.zones) max_keepout_zones zones.long,
+      unused_test zero_zone no_place zs.zones zs.zone_count (λ i p q. rw (zones.beyond i p (omega (arith, zones.long))) no_zone_zero),
+    ) tt
+
+-- a state of f32 values that passes every test is sound
+pub test_sound : (s : Supervisor) → FitFlight s.flight s.waypoints → T (sound_supervisor_of s) → SoundFlight s.flight s.waypoints
+unfolding sound_supervisor_of limits_sound_of points_sound_of leg_sound_of unused_sound_of
+test_sound s f t =
+    let a = and_parts _ _ (is_true (sound_supervisor_of s) t) in
+    let b = and_parts _ _ a.0 in
+    let c = and_parts _ _ b.0 in
+    let d = and_parts _ _ c.0 in
+    let e = and_parts _ _ d.0 in
+    let zones_few = and_parts _ _ e.0 in
+    let points_few = and_parts _ _ zones_few.0 in
+    let masks = and_parts _ _ points_few.0 in
+    let zones_unused = and_parts _ _ a.1 in
+    let zones_long = and_parts _ _ zones_unused.0 in
+    let points_unused = and_parts _ _ zones_long.0 in
+    let m = s.flight.mission in
     let zs = s.flight.zones in
-    let few = leb m.wp_count max_waypoints in
-    let few-zones = leb zs.zone_count max_keepout_zones in
-    let unused = unused_sound zero_point nowhere max_waypoints ps m.wp_count in
-    let unused-zones = unused_sound zero_zone no_place max_keepout_zones zs.zones zs.zone_count in
+    let ps_few : m.wp_count ≤ max_waypoints = leb-true _ _ points_few.1 in
+    let ps_long : length s.waypoints ≡ max_waypoints = eqb-true _ _ points_unused.0 in
+    let zs_long : length zs.zones ≡ max_keepout_zones = eqb-true _ _ zones_long.1 in
     record {
-      checks = checks_back s.flight.check_table (test 0);
+      checks = record { required_below = ltb-true _ _ masks.0; passed_below = ltb-true _ _ masks.1 };
       mission = record {
-        places =
-            unused_back _ zero_point nowhere origin max_waypoints ps m.wp_count
-            (λ i. origin_back _ (f.waypoints i))
-            (leb→le _ _ (and_l few few-zones (test 1)))
-            (below_each (λ i. waypoint_admissible_of s.flight.config (get_or ps i nowhere)) m.wp_count (test 2))
-            (and_l unused unused-zones (test 6));
-        leg = leb→le _ _ (test 3);
+        places = record {
+          long = ps_long;
+          few = ps_few;
+          beyond = λ i p q. origin_back _ (f.waypoints i) (unused_back zero_point nowhere s.waypoints m.wp_count points_unused.1 i p (omega arith));
+          fit = λ i p. T_from_true _ (used_back (waypoint_admissible_of s.flight.config) nowhere s.waypoints m.wp_count (omega arith) e.1 i p);
+        };
+        leg = leb-true _ _ d.1;
       };
-      zones =
-          unused_back _ zero_zone no_place no_zone max_keepout_zones zs.zones zs.zone_count
-          (λ i. no_zone_back _ (f.zones i))
-          (leb→le _ _ (and_r few few-zones (test 1)))
-          (λ i p. tt)
-          (and_r unused unused-zones (test 6));
-      tilt = tilt_back s.flight.fsm.mode s.flight.counts.runaway_count (test 4);
-      battery = battery_back s.flight.battery f.battery (is_true (batterySoundOf s.flight.battery) (test 5));
+      zones = record {
+        long = zs_long;
+        few = leb-true _ _ zones_few.1;
+        beyond = λ i p q. no_zone_back _ (f.zones i) (unused_back zero_zone no_place zs.zones zs.zone_count zones_unused.1 i p (omega arith));
+        fit = λ i p. tt;
+      };
+      tilt = tilt_back s.flight.fsm.mode s.flight.counts.runaway_count c.1;
+      battery = battery_back s.flight.battery f.battery b.1;
     }
 
--- ---- the invariant as a test
-
-pub sound_unopened : T (sound_of unopened)
-sound_unopened = sound_test unopened unopened_sound
-
 -- one call, refused or accepted, from any sound state of f32 values, reached or read back
-pub sound_step : (s : Supervisor) (r : Request) → FitFlight s.flight s.waypoints → T (sound_of s) → T (sound_of (step_of s r).supervisor)
+pub sound_step : (s : Supervisor) (r : Request) → FitFlight s.flight s.waypoints → T (sound_supervisor_of s) → T (sound_supervisor_of (step_of s r).supervisor)
 sound_step s r f t = sound_test (step_of s r).supervisor (step_sound s r (test_sound s f t))

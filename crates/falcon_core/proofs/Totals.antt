@@ -1,12 +1,13 @@
--- The day totals stand beside the rest of the state: nothing but the numbers behind an answer's ten depends on them. Assumes nothing.
+-- The day totals stand beside the rest of the state: no other part of it depends on them, and none of an answer's ten numbers.
 use mathlib.Core.Bool.{◌||◌}
 use mathlib.Core.Path.{◌≡◌, refl, ◌∙◌}
 use Rattle.std.specs.Prelude.{Option, Some, None}
 use Rattle.falcon_core.specs.declared.refusal.Refusal.{Refusal}
 use Rattle.falcon_totals.specs.declared.DayTotals.{DayTotals}
 use Rattle.falcon_core.specs.declared.supervisor.Supervisor.{Supervisor}
-use Rattle.falcon_core.specs.declared.calls.Answered.{Answered}
-use Rattle.falcon_core.specs.Calls.{Request, opens, ticks, reports, commands, plans, is_opening, refusal_of, state_refusal, legs_in, flight_after, waypoints_after, output_of, report_due_after, after_of, answer_of, refused_of, accepted_of, step_of}
+use Rattle.falcon_core.specs.declared.supervisor.Answered.{Answered}
+use Rattle.falcon_core.specs.Calls.{Request, is_opening, refusal_of, state_refusal, legs_in, flight_after, waypoints_after, output_of, after_of, refused_of, accepted_of, step_of}
+use Rattle.falcon_core.specs.Answer.{report_due_after, answer_of}
 use Rattle.falcon_core.proofs.Answers.{step_refused, step_accepted}
 
 -- the state with these totals for its own
@@ -24,11 +25,7 @@ module _ (s : Supervisor) (t : DayTotals) where
   -- with other totals the same refusal fits
   refusal_apart : (r : Request) → refusal_of (with_totals s t) r ≡ refusal_of s r
   unfolding refusal_of state_refusal
-  refusal_apart (opens o) = refl
-  refusal_apart (ticks x) = refl
-  refusal_apart (reports failed) = refl
-  refusal_apart (commands ev level low) = refl
-  refusal_apart (plans p) = refl
+  refusal_apart r = refl
 
   -- the answer is the same, and of the state all but the totals
   abbrev Apart : Answered → Answered → Type 0

@@ -1,5 +1,6 @@
 pub mod Refusals
-pub mod Supervisor
+pub mod Answer
 pub mod Calls
+pub mod Flown
 pub mod Land
 pub mod SoundState

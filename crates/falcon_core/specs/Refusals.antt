@@ -1,4 +1,4 @@
--- Document 01's table of refusals: their numbers, in the order in which they are tried. 0 is accepted.
+-- Document 01's table of refusals: their numbers, in the order in which they are tried, and 0 for what is accepted.
 use Rattle.std.specs.Prelude.{ℕ, Result, Ok, Err}
 use Rattle.falcon_core.specs.declared.refusal.Refusal.{Refusal}
 use Rattle.falcon_core.specs.declared.refusal.Refusal.TheVariants.{ShortBuffer, NotALine, UnknownKind, WrongCount, OutOfRange, NoOpening, ReportDue, NoReportDue, Inadmissible}
@@ -23,7 +23,7 @@ refusal_number ReportDue = 6
 refusal_number NoReportDue = 7
 refusal_number Inadmissible = 8
 
--- "0 accepted"
+-- "Accepted means that the refusal answered is 0."
 abbrev pub outcome_number : {T : Type 0} → Result T Refusal → ℕ
 outcome_number (Ok x) = 0
 outcome_number (Err refusal) = refusal_number refusal

@@ -1,65 +1,45 @@
--- What is true of every state that a list of calls leads to: as one test of the state, made of named tests, and as records.
-use Rattle.std.specs.Prelude.{ℕ, zero, suc, ◌-◌, ◌≤◌, ◌<◌, ◌≡◌, Bool, true, ◌&&◌, ◌||◌, List, [], ◌∷◌, ◌++◌, T, eqb, ltb, leb, length, get_or, Float}
-use Rattle.std.specs.Float.{nan, binary32}
-use Rattle.std.specs.Float.Ieee.{to_bits}
+-- What is true of every state that a list of calls leads to, as one test and as records, and which floats of states and calls are f32 values.
+use Rattle.std.specs.Prelude.{ℕ, zero, suc, ◌-◌, ◌≤◌, ◌<◌, ◌≡◌, Bool, ◌&&◌, ◌||◌, List, [], ◌∷◌, ◌++◌, T, eqb, ltb, leb, length, get_or, take, drop}
+use Rattle.std.specs.List.{list_all}
+use Rattle.std.specs.Float.{nan}
 use Rattle.relay_fsm.specs.declared.Mode.{Mode}
 use Rattle.relay_fsm.specs.declared.Mode.TheVariants.{Terminated}
 use Rattle.relay_fsm.specs.Mode.{is_mode}
 use Rattle.relay_preflight.specs.declared.CheckTable.{CheckTable}
 use Rattle.relay_preflight.specs.Table.{mask_limit}
-use Rattle.relay_batt.specs.Bounds.{all}
-use Rattle.relay_batt.specs.Sound.{Sound as SoundBattery, sound_of as batterySoundOf}
+use Rattle.relay_batt.specs.Sound.{Sound as SoundBattery, sound_battery_of, plus_zero}
 use Rattle.relay_batt.specs.Fits.{Fit, FitBattery, FitReading}
-use Rattle.falcon_guidance.specs.declared.state.Point.{Point}
-use Rattle.falcon_guidance.specs.declared.state.Zone.{Zone}
-use Rattle.falcon_guidance.specs.declared.state.Config.{Config}
-use Rattle.falcon_guidance.specs.declared.state.Mission.{Mission}
-use Rattle.falcon_guidance.specs.declared.state.Zones.{Zones}
-use Rattle.falcon_guidance.specs.declared.state.Hold.{Hold}
-use Rattle.falcon_failsafe.specs.declared.flight.Opening.{Opening}
-use Rattle.falcon_guidance.specs.declared.state.Tick.{Tick}
-use Rattle.falcon_failsafe.specs.declared.flight.FlightSupervisor.{FlightSupervisor}
-use Rattle.falcon_core.specs.declared.supervisor.Supervisor.{Supervisor}
-unfoldable pub use Rattle.falcon_guidance.specs.Lent.{filled_of}
-use Rattle.falcon_guidance.specs.State.{origin, no_zone, nowhere, max_waypoints, max_keepout_zones}
+use Rattle.falcon_state.specs.declared.point.Point.{Point}
+use Rattle.falcon_state.specs.declared.zone.Zone.{Zone}
+use Rattle.falcon_state.specs.declared.config.Config.{Config}
+use Rattle.falcon_state.specs.declared.mission.Mission.{Mission}
+use Rattle.falcon_state.specs.declared.zone.Zones.{Zones}
+use Rattle.falcon_state.specs.declared.hold.Hold.{Hold}
+use Rattle.falcon_state.specs.declared.flight.Opening.{Opening}
+use Rattle.falcon_state.specs.declared.tick.Tick.{Tick}
+use Rattle.falcon_state.specs.declared.flight.FlightSupervisor.{FlightSupervisor}
+use Rattle.falcon_state.specs.Point.{origin, nowhere, max_waypoints}
+use Rattle.falcon_state.specs.Zone.{no_zone, no_place, max_keepout_zones}
 use Rattle.falcon_guidance.specs.Mission.{waypoint_admissible_of}
-use Rattle.falcon_guidance.specs.Zones.{no_place}
-use Rattle.falcon_failsafe.specs.Failsafe.{tilt_runaway_cycles}
-use Rattle.falcon_core.specs.Calls.{Request, Planning, opens, ticks, reports, commands, plans, points, zones, totals, saves}
+use Rattle.falcon_events.specs.Failsafe.{tilt_runaway_cycles}
+use Rattle.falcon_core.specs.declared.supervisor.Supervisor.{Supervisor}
+use Rattle.falcon_core.specs.Calls.{Request, opens, ticks, plans, points, zones}
 
--- ---- an array of which the first `count` places are in use
+-- f 0, f 1 and so on, n of them
+unfoldable pub first_of : {A : Type 0} → (ℕ → A) → ℕ → List A
+first_of f zero = []
+first_of f (suc n) = first_of f n ++ (f n ∷ [])
 
-module _ {A : Type 0} where
-  -- f 0, f 1 and so on, n of them
-  unfoldable pub first_of : (ℕ → A) → ℕ → List A
-  first_of f zero = []
-  first_of f (suc n) = first_of f n ++ (f n ∷ [])
+-- ---- the test
 
-  -- `size` places, at most so many in use: what is in use is `Held`, every other place has z; d is what is read past the end
-  pub record Tidy (Held : A → Type 0) (d z : A) (size : ℕ) (l : List A) (count : ℕ) : Type 0 where
-    pub long : length l ≡ size
-    pub few : count ≤ size
-    pub beyond : (i : ℕ) → count ≤ i → i < size → get_or l i d ≡ z
-    pub fit : (i : ℕ) → i < count → Held (get_or l i d)
-
--- every number below n passes
-unfoldable pub each_below_of : (ℕ → Bool) → ℕ → Bool
-each_below_of test zero = true
-each_below_of test (suc n) = each_below_of test n && test n
-
--- ---- the tests
-
--- both masks are below 2^21: "mask of 2^21 or more" is refused
-unfoldable pub checks_sound_of : CheckTable → Bool
-checks_sound_of k = ltb k.required mask_limit && ltb k.passed mask_limit
-
--- at most 16 points and 8 zones are in use
-unfoldable pub counts_sound_of : Mission → Zones → Bool
-counts_sound_of m zs = leb m.wp_count max_waypoints && leb zs.zone_count max_keepout_zones
+-- both masks are below 2^21, as "mask of 2^21 or more" is refused, and at most 16 points and 8 zones are in use
+unfoldable pub limits_sound_of : CheckTable → Mission → Zones → Bool
+limits_sound_of k m zs =
+    ltb k.required mask_limit && ltb k.passed mask_limit && leb m.wp_count max_waypoints && leb zs.zone_count max_keepout_zones
 
 -- "Every point in use is admissible."
 unfoldable pub points_sound_of : Config → List Point → Mission → Bool
-points_sound_of c ps m = each_below_of (λ i. waypoint_admissible_of c (get_or ps i nowhere)) m.wp_count
+points_sound_of c ps m = list_all (waypoint_admissible_of c) (take m.wp_count ps)
 
 -- the leg number is below the point count, and 0 for an empty list
 unfoldable pub leg_sound_of : Mission → Bool
@@ -69,50 +49,46 @@ leg_sound_of m = leb m.wp_index (m.wp_count - 1)
 unfoldable pub tilt_sound_of : Mode → ℕ → Bool
 tilt_sound_of m n = leb n tilt_runaway_cycles && (ltb n tilt_runaway_cycles || is_mode m Terminated)
 
--- +0 by its bits
-abbrev pub zero_bits : Float → Bool
-zero_bits x = eqb (to_bits binary32 x) 0
-
--- a point of zeros
+-- a point of zeros, and a zone of zeros
 abbrev pub zero_point : Point → Bool
-zero_point p = zero_bits p.x && (zero_bits p.y && zero_bits p.z)
+zero_point p = plus_zero p.x && plus_zero p.y && plus_zero p.z
 
--- a zone of zeros
 abbrev pub zero_zone : Zone → Bool
-zero_zone z = zero_point z.center && zero_bits z.radius
+zero_zone z = zero_point z.center && plus_zero z.radius
 
--- a list has `size` places, and those from `count` on pass
-abbrev pub unused_sound : {A : Type 0} → (A → Bool) → A → ℕ → List A → ℕ → Bool
-unused_sound test d size l count = eqb (length l) size && each_below_of (λ i. ltb i count || test (get_or l i d)) size
-
--- there are 16 places for points and 8 for zones, and those beyond the counts are 0
+-- there are 16 places for points and 8 for zones, and those that are not in use are 0
 unfoldable pub unused_sound_of : List Point → Mission → Zones → Bool
 unused_sound_of ps m zs =
-    unused_sound zero_point nowhere max_waypoints ps m.wp_count
-    && unused_sound zero_zone no_place max_keepout_zones zs.zones zs.zone_count
+    eqb (length ps) max_waypoints
+    && list_all zero_point (drop m.wp_count ps)
+    && eqb (length zs.zones) max_keepout_zones
+    && list_all zero_zone (drop zs.zone_count zs.zones)
 
--- all of them, and the battery's: latches equal to the flags shown, charge, used and resistance within their bounds, what one `update` leaves for the next finite, and all zero before a reading
-abbrev pub sound_tests : FlightSupervisor → List Point → List Bool
-sound_tests f ps =
-    checks_sound_of f.check_table
-    ∷ counts_sound_of f.mission f.zones
-    ∷ points_sound_of f.config ps f.mission
-    ∷ leg_sound_of f.mission
-    ∷ tilt_sound_of f.fsm.mode f.counts.runaway_count
-    ∷ batterySoundOf f.battery
-    ∷ unused_sound_of ps f.mission f.zones
-    ∷ []
-
--- every test passes
-unfoldable pub sound_of : Supervisor → Bool
-sound_of s = all (sound_tests s.flight s.waypoints)
+-- all of them, and the battery's: latches equal to the flags shown, charge, used and resistance within their bounds, what one `update` leaves for the
+-- next finite, and all zero before a reading
+unfoldable pub sound_supervisor_of : Supervisor → Bool
+sound_supervisor_of s =
+    let f = s.flight in
+    limits_sound_of f.check_table f.mission f.zones
+    && points_sound_of f.config s.waypoints f.mission
+    && leg_sound_of f.mission
+    && tilt_sound_of f.fsm.mode f.counts.runaway_count
+    && sound_battery_of f.battery
+    && unused_sound_of s.waypoints f.mission f.zones
 
 -- ---- the same as records
 
--- `checks_sound_of`
+-- the checks of `limits_sound_of`
 pub record SoundChecks (k : CheckTable) : Type 0 where
   pub required_below : k.required < mask_limit
   pub passed_below : k.passed < mask_limit
+
+-- an array of `size` places, at most so many in use: what is in use is `Held`, every other place has z; d is what is read past the end
+pub record Tidy {A : Type 0} (Held : A → Type 0) (d z : A) (size : ℕ) (l : List A) (count : ℕ) : Type 0 where
+  pub long : length l ≡ size
+  pub few : count ≤ size
+  pub beyond : (i : ℕ) → count ≤ i → i < size → get_or l i d ≡ z
+  pub fit : (i : ℕ) → i < count → Held (get_or l i d)
 
 -- the points in use are admissible by the configuration, the other places are the origin, and the leg is below the count
 pub record SoundMission (c : Config) (ps : List Point) (m : Mission) : Type 0 where
@@ -183,17 +159,10 @@ pub record FitTick (t : Tick) : Type 0 where
   pub p : FitPoint t.p
   pub reading : FitReading t.reading
 
--- those of what the planner asks
-abbrev pub LentPlan : Planning → Type 0
-LentPlan (points l) = (i : ℕ) → Fit (get_or l i nan)
-LentPlan (zones l) = (i : ℕ) → Fit (get_or l i nan)
-LentPlan totals = Unit {0}
-LentPlan saves = Unit {0}
-
 -- those of a call that the state keeps: every lent f32 is one
-abbrev pub Lent : Request → Type 0
-Lent (opens o) = FitOpening o
-Lent (ticks t) = FitTick t
-Lent (reports failed) = Unit {0}
-Lent (commands ev level low) = Unit {0}
-Lent (plans p) = LentPlan p
+abbrev pub FitRequest : Request → Type 0
+FitRequest (opens o) = FitOpening o
+FitRequest (ticks t) = FitTick t
+FitRequest (plans (points l)) = (i : ℕ) → Fit (get_or l i nan)
+FitRequest (plans (zones l)) = (i : ℕ) → Fit (get_or l i nan)
+FitRequest r = Unit {0}

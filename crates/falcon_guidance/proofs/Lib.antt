@@ -1,2 +1,3 @@
 pub mod Waypoints
 pub mod LegPlaces
+pub mod HoldPoint

@@ -1,14 +1,16 @@
--- Laws of the waypoints.
+-- A list is admissible where each point is, and each point where the list is; the points tried have places; within a list what is read past its end counts
+-- for nothing.
 use Rattle.std.proofs.Common.{◌≡◌, ℕ, zero, suc, ◌<◌, ◌≤◌, List, length, get_or, true, refl, arith}
 use Rattle.std.specs.Prelude.{Float}
 use Rattle.std.proofs.lemmas.Bool.{and_from, and_parts}
 use Rattle.std.proofs.lemmas.List.{get_or_default}
 use native.Mathlib.Nat.{not-suc-le-zero}
 use native.Mathlib.Decide.{dec_lt}
-use Rattle.falcon_guidance.specs.declared.state.Point.{Point}
-use Rattle.falcon_guidance.specs.declared.state.Config.{Config}
-use Rattle.falcon_guidance.specs.Mission.{waypoint_admissible_of, point_at_of, tried_of, all_admissible_of, waypoint_at_of}
-use Rattle.falcon_guidance.specs.State.{max_waypoints, origin, nowhere}
+use Rattle.falcon_state.specs.declared.point.Point.{Point}
+use Rattle.falcon_state.specs.declared.config.Config.{Config}
+use Rattle.falcon_guidance.specs.Mission.{waypoint_admissible_of, tried_of, all_admissible_of, waypoint_at_of}
+use Rattle.falcon_state.specs.Point.{point_at_of}
+use Rattle.falcon_state.specs.Point.{max_waypoints, origin, nowhere}
 
 module _ (c : Config) (l : List Float) where
   -- the first n points are all admissible where each is, and each is where all are

@@ -1,7 +1,7 @@
-pub mod State
 pub mod Geometry
 pub mod Lent
 pub mod Mission
-pub mod Zones
 pub mod Legs
-pub mod Chunks
+pub mod Zones
+pub mod Hold
+pub mod Setpoint

@@ -1,32 +1,30 @@
 -- The waypoints: which are admissible, how a lent list is stored, and those of the active leg and the next.
-use Rattle.std.specs.Prelude.{ℕ, zero, suc, ◌+◌, ◌-◌, ◌*◌, ◌/◌, min, Bool, true, cond, ◌&&◌, List, eqb, length, get_or, replicate, Float}
-use Rattle.std.specs.Float.{nan, binary32}
-use Rattle.std.specs.Float.Ieee.{of_bits, sub, le}
+use Rattle.std.specs.Prelude.{ℕ, zero, suc, ◌+◌, ◌-◌, ◌/◌, min, Bool, true, cond, ◌&&◌, List, eqb, length, get_or, replicate, Float}
+use Rattle.std.specs.Float.{binary32}
+use Rattle.std.specs.Float.Ieee.{sub, le}
 use Rattle.std.specs.Float.Ieee.Scale.{finite}
-use Rattle.falcon_guidance.specs.declared.state.Point.{Point}
-use Rattle.falcon_guidance.specs.declared.state.Config.{Config}
-use Rattle.falcon_guidance.specs.declared.state.Mission.{Mission}
-use Rattle.falcon_guidance.specs.declared.state.Legs.{Legs}
-use Rattle.falcon_guidance.specs.State.{max_waypoints, point_numbers_of, origin}
+use Rattle.relay_math.specs.Small.{f32}
+use Rattle.falcon_state.specs.declared.point.Point.{Point}
+use Rattle.falcon_state.specs.declared.config.Config.{Config}
+use Rattle.falcon_state.specs.declared.mission.Mission.{Mission}
+use Rattle.falcon_state.specs.declared.mission.Legs.{Legs}
+use Rattle.falcon_state.specs.Point.{max_waypoints, point_numbers_of, origin}
+use Rattle.falcon_state.specs.Point.{point_at_of}
 use Rattle.falcon_guidance.specs.Geometry.{distance_of}
 use Rattle.falcon_guidance.specs.Lent.{filled_of}
 
 -- `MISSION_MIN_ALT_AGL_M` 1.0 and `MISSION_MAX_ALT_AGL_M` 120.0
-abbrev pub min_alt_agl : Float
-min_alt_agl = of_bits binary32 0x3f80_0000
+abbrev pub mission_min_alt_agl_m : Float
+mission_min_alt_agl_m = f32 0x3f80_0000
 
-abbrev pub max_alt_agl : Float
-max_alt_agl = of_bits binary32 0x42f0_0000
+abbrev pub mission_max_alt_agl_m : Float
+mission_max_alt_agl_m = f32 0x42f0_0000
 
 -- `waypoint_admissible`: "finite, height `home[2] − z` from 1.0 to 120.0, horizontal distance at most the fence, ends included"
 unfoldable pub waypoint_admissible_of : Config → Point → Bool
 waypoint_admissible_of c p =
     let agl = sub binary32 c.home.z p.z in
-    finite p.x && finite p.y && finite p.z && (le min_alt_agl agl && le agl max_alt_agl) && le (distance_of p c.home) c.fence_radius
-
--- point i of a lent list
-unfoldable pub point_at_of : List Float → ℕ → Point
-point_at_of l i = record { x = get_or l (point_numbers_of * i) nan; y = get_or l (point_numbers_of * i + 1) nan; z = get_or l (point_numbers_of * i + 2) nan }
+    finite p.x && finite p.y && finite p.z && (le mission_min_alt_agl_m agl && le agl mission_max_alt_agl_m) && le (distance_of p c.home) c.fence_radius
 
 -- "Only the first 16 points are tried and kept."
 unfoldable pub tried_of : List Float → ℕ
@@ -42,15 +40,15 @@ abbrev pub no_points_of : List Point
 no_points_of = replicate max_waypoints origin
 
 -- the first n points of a lent list, each in its place, and the origin in every other
-unfoldable pub stored_of : List Float → ℕ → List Point
-stored_of l n = filled_of (point_at_of l) n no_points_of
+unfoldable pub stored_points_of : List Float → ℕ → List Point
+stored_points_of l n = filled_of (point_at_of l) n no_points_of
 
 -- `set_mission_waypoints` of an accepted list: the points tried, and the first leg
 unfoldable pub loaded_of : List Float → Mission
 loaded_of l = record { wp_count = tried_of l; wp_index = 0 }
 
 unfoldable pub loaded_points_of : List Float → List Point
-loaded_points_of l = stored_of l (tried_of l)
+loaded_points_of l = stored_points_of l (tried_of l)
 
 -- the waypoint in place i, the origin beyond the places
 unfoldable pub waypoint_at_of : List Point → ℕ → Point

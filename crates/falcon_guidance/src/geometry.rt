@@ -1,14 +1,14 @@
-// Distances in the horizontal plane, and the height.
+// Distances and the height.
 ghost use Rattle.std.specs.Prelude.{◌≡◌};
-ghost use Rattle.falcon_guidance.specs.Geometry.{length_of, distance_of, height_of};
+ghost use Rattle.falcon_guidance.specs.Geometry.{norm_of, distance_of, distance3_of, height_of};
 
-use crate::state::{Config, Point};
+use falcon_state::{Config, Point};
 use relay_math::sqrtf;
 
-// The length of a horizontal vector.
-#[tactic(auto, unfolding(crate::specs::Geometry::length_of))]
-pub fn length(x: f32, y: f32) -> f32
-    ensures { result ≡ length_of x y }
+// The norm of a horizontal vector.
+#[tactic(auto, unfolding(crate::specs::Geometry::norm_of))]
+pub fn norm(x: f32, y: f32) -> f32
+    ensures { result ≡ norm_of x y }
 {
     sqrtf(x * x + y * y)
 }
@@ -18,7 +18,18 @@ pub fn length(x: f32, y: f32) -> f32
 pub fn distance(p: Point, q: Point) -> f32
     ensures { result ≡ distance_of p q }
 {
-    length(p.x - q.x, p.y - q.y)
+    norm(p.x - q.x, p.y - q.y)
+}
+
+// The distance of two points.
+#[tactic(auto, unfolding(crate::specs::Geometry::distance3_of))]
+pub fn distance3(p: Point, q: Point) -> f32
+    ensures { result ≡ distance3_of p q }
+{
+    let dx = p.x - q.x;
+    let dy = p.y - q.y;
+    let dz = p.z - q.z;
+    sqrtf(dx * dx + dy * dy + dz * dz)
 }
 
 // The height of a position.

@@ -1,9 +1,9 @@
 // All that a tick reads of the waypoints: that of the active leg and that of the next, by their places in the list.
 ghost use Rattle.std.specs.Prelude.{◌≡◌, ◌+◌, ◌-◌, min};
-ghost use Rattle.falcon_guidance.specs.Legs.{here_leg_of, next_leg_of, place_of, held_at, legs_from_of};
+ghost use Rattle.falcon_guidance.specs.Legs.{here_leg_of, next_leg_of, place_of, waypoint_in_place, legs_from_of};
 ghost use Rattle.falcon_guidance.specs.Mission.{legs_of};
 
-use crate::state::{Config, Legs, Mission, Point};
+use falcon_state::{Config, Legs, Mission, Point};
 
 // The last leg, 0 where there is none.
 fn last_leg(m: Mission) -> u32
@@ -31,7 +31,8 @@ fn next_leg(m: Mission) -> u32
     }
 }
 
-// The place of a leg's waypoint, the first where the leg is beyond the places. No Option: a caller indexes the list with it, and `held_at` says what counts.
+// The place of a leg's waypoint, the first where the leg is beyond the places. No Option: a caller indexes the list with it, and `waypoint_in_place` tells
+// whether what stands there counts.
 #[tactic(auto, unfolding(crate::specs::Legs::place_of))]
 fn place_of(leg: u32) -> usize
     ensures { result ≡ place_of leg }
@@ -40,13 +41,13 @@ fn place_of(leg: u32) -> usize
     if at < Point::MAX_WAYPOINTS { at } else { 0 }
 }
 
-// The waypoint of a leg whose place holds this one, the origin beyond the places.
-#[tactic(auto, unfolding(crate::specs::Legs::held_at))]
-fn held_at(leg: u32, held: Point) -> Point
-    ensures { result ≡ held_at leg held }
+// The waypoint of a leg whose place holds this point; the origin where the leg is beyond the places.
+#[tactic(auto, unfolding(crate::specs::Legs::waypoint_in_place))]
+fn waypoint_in_place(leg: u32, point: Point) -> Point
+    ensures { result ≡ waypoint_in_place leg point }
 {
     if (leg as usize) < Point::MAX_WAYPOINTS {
-        held
+        point
     } else {
         Point::origin()
     }
@@ -68,7 +69,7 @@ pub fn next_place(m: Mission) -> usize
     place_of(next_leg(m))
 }
 
-// The waypoints of the active leg and of the next, whose places hold these; home where there is none.
+// The waypoints of the active leg and of the next, whose places hold these points; home where there is none.
 #[tactic(auto, unfolding(crate::specs::Legs::legs_from_of))]
 pub fn legs_from(c: Config, m: Mission, here: Point, next: Point) -> Legs
     ensures { result ≡ legs_from_of c m here next }
@@ -80,8 +81,8 @@ pub fn legs_from(c: Config, m: Mission, here: Point, next: Point) -> Legs
         };
     }
     Legs {
-        here: held_at(here_leg(m), here),
-        next: held_at(next_leg(m), next),
+        here: waypoint_in_place(here_leg(m), here),
+        next: waypoint_in_place(next_leg(m), next),
     }
 }
 

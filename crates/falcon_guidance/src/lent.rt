@@ -1,13 +1,12 @@
 // Lent lists of floats: what they hold item by item, and how their items are stored.
 ghost use Rattle.std.specs.Prelude.{◌≡◌, ℕ, ◌+◌, ◌*◌, ◌/◌, ◌<◌, min, List, Float, length, take, drop, replicate};
 ghost use Rattle.std.proofs.Common.{lit<};
-ghost use Rattle.falcon_guidance.specs.State.{point_numbers_of, zone_numbers_of};
+ghost use Rattle.falcon_state.specs.Point.{point_numbers_of, point_at_of};
+ghost use Rattle.falcon_state.specs.Zone.{zone_numbers_of, zone_at_of};
 ghost use Rattle.falcon_guidance.specs.Lent.{filled_of};
-ghost use Rattle.falcon_guidance.specs.Mission.{point_at_of};
-ghost use Rattle.falcon_guidance.specs.Zones.{zone_at_of};
-ghost use Rattle.falcon_guidance.specs.Chunks.{point_chunk, zone_chunk};
+ghost use Rattle.falcon_state.proofs.Chunks.{point_chunk, zone_chunk};
 
-use crate::state::{Place, Point, Zone};
+use falcon_state::{Place, Point, Zone};
 
 // An item of a lent list, which is so many floats in a row.
 pub(crate) trait Lent: Place {
@@ -42,7 +41,7 @@ impl Lent for Point {
 
     ghost chunk = { point_chunk };
 
-    #[tactic(auto, unfolding(crate::specs::Mission::point_at_of))]
+    #[tactic(auto, unfolding(falcon_state::specs::Point::point_at_of))]
     fn from_numbers(numbers: &[f32]) -> Point {
         Point::new(numbers[0], numbers[1], numbers[2])
     }
@@ -59,7 +58,7 @@ impl Lent for Zone {
 
     ghost chunk = { zone_chunk };
 
-    #[tactic(auto, unfolding(crate::specs::Zones::zone_at_of))]
+    #[tactic(auto, unfolding(falcon_state::specs::Zone::zone_at_of))]
     fn from_numbers(numbers: &[f32]) -> Zone {
         Zone {
             center: Point::new(numbers[0], numbers[1], numbers[2]),

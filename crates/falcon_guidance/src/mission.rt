@@ -4,10 +4,10 @@ ghost use Rattle.falcon_guidance.specs.Mission.{waypoint_admissible_of, tried_of
 
 use crate::geometry::distance;
 use crate::lent::{Lent, kept_count, stored};
-use crate::state::{Config, Mission, Point};
+use falcon_state::{Config, Mission, Point};
 use relay_math::is_finite;
 
-// Inside the flight envelope: finite, between floor and ceiling above home, and within the fence.
+// Inside the flight envelope: finite, between floor and ceiling above home, and within the fence. A NaN fence admits nothing.
 #[tactic(auto, unfolding(crate::specs::Mission::waypoint_admissible_of))]
 fn waypoint_admissible(c: Config, p: Point) -> bool
     ensures { result ≡ waypoint_admissible_of c p }
@@ -19,7 +19,7 @@ fn waypoint_admissible(c: Config, p: Point) -> bool
     finite & height & (distance(p, home) <= c.fence_radius)
 }
 
-// The points of a lent list that are tried are all admissible.
+// The points of a lent list that are tried are all admissible: one that is not refuses the whole list.
 pub fn tried_admissible(c: Config, lent: &[f32]) -> bool
     ensures { result ≡ all_admissible_of c lent.now (tried_of lent.now) }
 {
@@ -40,7 +40,7 @@ pub fn loaded(lent: &[f32]) -> Mission
 }
 
 // The waypoints of an accepted list.
-#[tactic(auto, unfolding(crate::specs::Mission::loaded_points_of, crate::specs::Mission::stored_of, crate::specs::Mission::tried_of))]
+#[tactic(auto, unfolding(crate::specs::Mission::loaded_points_of, crate::specs::Mission::stored_points_of, crate::specs::Mission::tried_of))]
 pub fn loaded_points(lent: &[f32]) -> [Point; Point::MAX_WAYPOINTS]
     ensures { result ≡ loaded_points_of lent.now }
 {

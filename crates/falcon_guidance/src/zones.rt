@@ -1,12 +1,12 @@
 // The setpoint is deflected around the keep-out zones that the vehicle is near.
 ghost use Rattle.std.specs.Prelude.{◌≡◌, min};
-ghost use Rattle.falcon_guidance.specs.State.{max_keepout_zones};
+ghost use Rattle.falcon_state.specs.Zone.{max_keepout_zones};
 ghost use Rattle.falcon_guidance.specs.Zones.{goal_of, bearing_of, along_of, perp_of, obstructs_of, threatens_of, tangent_of, urgency_of};
 ghost use Rattle.falcon_guidance.specs.Zones.{ring_of, deflected_of, around_of, avoid_of, loaded_zones_of};
 
-use crate::geometry::length;
+use crate::geometry::norm;
 use crate::lent::{kept_count, stored};
-use crate::state::{Horizontal, Point, Zone, Zones};
+use falcon_state::{Horizontal, Point, Zone, Zones};
 use relay_math::{clamp, max, sqrtf};
 
 // The unit vector from the vehicle toward the goal, and the distance to it.
@@ -36,7 +36,7 @@ impl Bearing {
         Bearing {
             rx,
             ry,
-            d: max(length(rx, ry), Zone::MIN_DISTANCE),
+            d: max(norm(rx, ry), Zone::MIN_DISTANCE),
             safe: z.radius + Zone::KEEPOUT_MARGIN,
         }
     }
@@ -77,7 +77,7 @@ impl Goal {
     {
         let gx = sp.x - p.x;
         let gy = sp.y - p.y;
-        let glen = max(length(gx, gy), Zone::MIN_DISTANCE);
+        let glen = max(norm(gx, gy), Zone::MIN_DISTANCE);
         Goal {
             ux: gx / glen,
             uy: gy / glen,
@@ -102,7 +102,8 @@ impl Goal {
         (a > 0.0) & (a < self.glen + b.safe) & (b.perp(a) < b.safe + Zone::KEEPOUT_INFLUENCE)
     }
 
-    // The zone blocks the way and the vehicle is within its reach, or the vehicle is inside the safe ring.
+    // The zone blocks the way and the vehicle is within its reach, or the vehicle is inside the safe ring. A zone that is merely near, as beside home at the
+    // end of the way, deflects nothing.
     #[tactic(auto, unfolding(crate::specs::Zones::threatens_of))]
     fn is_threatened(self, b: Bearing) -> bool
         ensures { result ≡ threatens_of self b }
@@ -110,7 +111,7 @@ impl Goal {
         self.is_obstructed(b) & (b.d < b.safe + Zone::KEEPOUT_INFLUENCE) | (b.d < b.safe)
     }
 
-    // The tangent to the outward radial n, signed toward the goal.
+    // The tangent to the outward radial n, signed toward the goal: so the vehicle circles around the zone and does not stall in front of it.
     #[tactic(auto, unfolding(crate::specs::Zones::tangent_of))]
     fn tangent(self, n: Horizontal) -> Horizontal
         ensures { result ≡ tangent_of self n }
@@ -180,7 +181,7 @@ pub fn avoid(zs: Zones, p: Point, sp: Point) -> Point
 }
 
 // The zones of a lent list.
-#[tactic(auto, unfolding(crate::specs::Zones::loaded_zones_of, crate::specs::Zones::stored_zones_of, crate::specs::Zones::kept_of))]
+#[tactic(auto, unfolding(crate::specs::Zones::loaded_zones_of, crate::specs::Zones::stored_zones_of, crate::specs::Zones::zones_kept_of))]
 pub fn loaded_zones(lent: &[f32]) -> Zones
     ensures { result ≡ loaded_zones_of lent.now }
 {

@@ -7,19 +7,18 @@ use mathlib.Core.List.{List, ◌++◌, append_assoc}
 use lib.Dec.{lit<, lit≤}
 use lib.ListN.{get_or, replicate, get_or-replicate}
 use lib.Ieee.{Float, binary32, of_bits, to_bits}
-use Rattle.columns.specs.Line.{number_at, float_at}
-use Rattle.relay_math.specs.Small.{bits}
+use Rattle.relay_math.specs.Small.{bits, number_at, float_at}
 use Rattle.relay_math.proofs.Laws.{read_back, flag_back}
-use Rattle.relay_fsm.specs.Mode.{mode_at_of}
-use Rattle.relay_fsm.proofs.Finite.{mode_at_lem}
+use Rattle.relay_fsm.specs.Mode.{mode_or_disarmed}
+use Rattle.relay_fsm.proofs.Finite.{mode_back}
 use Rattle.relay_batt.specs.Config.{for_pack_of, FromPack}
 use Rattle.relay_batt.specs.declared.config.BattConfig.{BattConfig}
 use Rattle.relay_batt.specs.Fits.{Fit, FitBattery}
 use Rattle.relay_batt.specs.Numbers.{estimator_numbers_of, state_numbers_of, silence_numbers_of, battery_numbers_of, estimator_by, state_by, battery_by}
 use Rattle.relay_batt.proofs.Back as batt
-use Rattle.falcon_guidance.specs.declared.state.Zone.{Zone}
-use Rattle.falcon_guidance.specs.State.{origin, no_zone, nowhere, max_waypoints, max_keepout_zones, point_numbers_of, zone_numbers_of}
-use Rattle.falcon_guidance.specs.Zones.{no_place}
+use Rattle.falcon_state.specs.declared.zone.Zone.{Zone}
+use Rattle.falcon_state.specs.Point.{origin, nowhere, max_waypoints, point_numbers_of}
+use Rattle.falcon_state.specs.Zone.{no_zone, no_place, max_keepout_zones, zone_numbers_of}
 use Rattle.falcon_totals.specs.Totals.{totals_numbers}
 use Rattle.falcon_core.specs.declared.supervisor.Supervisor.{Supervisor}
 use Rattle.falcon_core.specs.SoundState.{FitConfig, FitHold}
@@ -85,9 +84,9 @@ unfolding zone_columns to_bits of_bits
 no_zone_zeros true = refl
 no_zone_zeros false = refl
 
-zone_numbers_lem : (tops : Bool) → zone_numbers_of ≤ cond tops (zone_numbers_of + 1) zone_numbers_of
-zone_numbers_lem true = lit≤ tt
-zone_numbers_lem false = lit≤ tt
+zone_numbers_fit : (tops : Bool) → zone_numbers_of ≤ cond tops (zone_numbers_of + 1) zone_numbers_of
+zone_numbers_fit true = lit≤ tt
+zone_numbers_fit false = lit≤ tt
 
 module _ (form : Form) (s : Supervisor) where
   -- number k of point i, in use or not
@@ -100,7 +99,7 @@ module _ (form : Form) (s : Supervisor) where
       place_at nowhere origin s.waypoints s.flight.mission.wp_count form.places point_numbers_of (λ b. point_columns) (λ b. length_point)
       (scalar_columns s) (zones_columns form s.flight.zones ++ later_columns form) points_at (length_scalars s)
 
-  -- "Places beyond the point or zone count are written 0": the points
+  -- U2: "Places beyond the point or zone count are written 0", the points
   pub points_beyond :
       (i k : ℕ) → s.flight.mission.wp_count ≤ i → i < form.places → k < point_numbers_of →
       number_at (columns_in form s) (points_at + (point_numbers_of * i + k)) ≡ 0
@@ -135,12 +134,12 @@ module _ (form : Form) (s : Supervisor) where
   zones_apart = sym (append_assoc (scalar_columns s) (points_columns form s) _)
 
   -- number k of zone i, in use or not
-  zone_at_lem :
+  zone_at :
       (n i k : ℕ) → n ≡ zones_at form + (zone_width form * i + k) → i < max_keepout_zones → k < zone_width form →
       (i < s.flight.zones.zone_count → number_at (columns_in form s) n ≡ number_at (zone_columns form.has_tops no_top (get_or s.flight.zones.zones i no_place)) k)
       × (s.flight.zones.zone_count ≤ i → number_at (columns_in form s) n ≡ number_at (zone_columns form.has_tops 0 no_zone) k)
   unfolding zones_columns
-  zone_at_lem n i k e p q =
+  zone_at n i k e p q =
       let zs = s.flight.zones in
       let cols : Bool → Zone → List ℕ = λ b. zone_columns form.has_tops (cond b no_top 0) in
       rw zones_apart
@@ -153,7 +152,7 @@ module _ (form : Form) (s : Supervisor) where
       number_at (columns_in form s) (zones_at form + (zone_width form * i + k)) ≡ 0
   unfolding zone_width
   zones_beyond i k h p q =
-      (zone_at_lem (zones_at form + (zone_width form * i + k)) i k refl p q).1 h
+      (zone_at (zones_at form + (zone_width form * i + k)) i k refl p q).1 h
       ∙ ap (λ (l : List ℕ). number_at l k) (no_zone_zeros form.has_tops)
       ∙ get_or-replicate _ k 0 0 q
 
@@ -165,14 +164,14 @@ module _ (form : Form) (s : Supervisor) where
       let fit = k.fit.zones i in
       let at = zones_at form + zone_width form * i in
       let room : i < max_keepout_zones = omega (arith, k.sound.zones.few) in
-      let wide = zone_numbers_lem form.has_tops in
+      let wide = zone_numbers_fit form.has_tops in
       λ j. record {
         center = record {
-          x = float_back ns at z.center.x fit.center.x ((zone_at_lem at i 0 (omega arith) room (omega arith)).0 h) j;
-          y = float_back ns (at + 1) z.center.y fit.center.y ((zone_at_lem (at + 1) i 1 (omega arith) room (omega arith)).0 h) j;
-          z = float_back ns (at + 2) z.center.z fit.center.z ((zone_at_lem (at + 2) i 2 (omega arith) room (omega arith)).0 h) j;
+          x = float_back ns at z.center.x fit.center.x ((zone_at at i 0 (omega arith) room (omega arith)).0 h) j;
+          y = float_back ns (at + 1) z.center.y fit.center.y ((zone_at (at + 1) i 1 (omega arith) room (omega arith)).0 h) j;
+          z = float_back ns (at + 2) z.center.z fit.center.z ((zone_at (at + 2) i 2 (omega arith) room (omega arith)).0 h) j;
         };
-        radius = float_back ns (at + 3) z.radius fit.radius ((zone_at_lem (at + 3) i 3 (omega arith) room (omega arith)).0 h) j;
+        radius = float_back ns (at + 3) z.radius fit.radius ((zone_at (at + 3) i 3 (omega arith) room (omega arith)).0 h) j;
       }
 
   zones_back : Kept s → zones_from form (columns_in form s) ≡ s.flight.zones
@@ -187,13 +186,13 @@ module _ (form : Form) (s : Supervisor) where
   -- ---- all
 
   flight_back : Kept s → flight_from form (columns_in form s) ≡ s.flight
-  unfolding flight_from mode_at_of columns_in scalar_columns config_columns check_columns battery_numbers_of estimator_numbers_of state_numbers_of silence_numbers_of hold_columns count_columns totals_numbers use_columns
+  unfolding flight_from mode_or_disarmed columns_in scalar_columns config_columns check_columns battery_numbers_of estimator_numbers_of state_numbers_of silence_numbers_of hold_columns count_columns totals_numbers use_columns
   flight_back k =
       let f = s.flight in
       let rest = place_columns form s in
       λ i. record {
         config = config_back s rest k.fit.config i;
-        fsm = record { mode = mode_at_lem f.fsm.mode i };
+        fsm = record { mode = mode_back f.fsm.mode i };
         battery = battery_back s rest k.fit.config k.pack k.fit.battery i;
         mission = f.mission;
         zones = zones_back k i;
@@ -205,9 +204,9 @@ module _ (form : Form) (s : Supervisor) where
       }
 
   -- what is read from the columns is what was written
-  pub record_back_lem : Kept s → Ready s → Carries form s → record_from form (columns_in form s) ≡ s
+  pub state_back : Kept s → Ready s → Carries form s → record_from form (columns_in form s) ≡ s
   unfolding record_from columns_in
-  record_back_lem k r c =
+  state_back k r c =
       λ i. record {
         flight = flight_back k i;
         waypoints = points_back k c i;
@@ -218,4 +217,4 @@ module _ (form : Form) (s : Supervisor) where
 
 -- equal columns, equal states
 pub columns_same : (form : Form) (s u : Supervisor) → Kept s → Kept u → Ready s → Ready u → Carries form s → Carries form u → columns_in form s ≡ columns_in form u → s ≡ u
-columns_same form s u k l r q c d e = sym (record_back_lem form s k r c) ∙ ap (record_from form) e ∙ record_back_lem form u l q d
+columns_same form s u k l r q c d e = sym (state_back form s k r c) ∙ ap (record_from form) e ∙ state_back form u l q d

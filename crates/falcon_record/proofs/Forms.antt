@@ -5,13 +5,13 @@ use Rattle.std.specs.Prelude.{Some}
 use mathlib.Core.Path.{◌≡◌, refl}
 use Rattle.columns.specs.Line.{read_within, line_of}
 use Rattle.columns.proofs.LineAgain.{line_again}
-use Rattle.falcon_guidance.specs.State.{max_waypoints}
+use Rattle.falcon_state.specs.Point.{max_waypoints}
 use Rattle.falcon_core.specs.declared.supervisor.Supervisor.{Supervisor}
 use Rattle.falcon_record.specs.Form.{Form, zone_width, zones_at, later_at, fields_of, first_form, opening_form, long_form, topped_form, target_form, form_of}
 use Rattle.falcon_record.specs.Columns.{columns_in}
 use Rattle.falcon_record.specs.Kept.{Kept, Carries}
 use Rattle.falcon_record.proofs.Lengths.{length_columns}
-use Rattle.falcon_record.proofs.Range.{columns_in_lem}
+use Rattle.falcon_record.proofs.Range.{columns_in_range}
 
 -- how many fields each form has
 pub fields_are :
@@ -23,7 +23,7 @@ pub fields_are :
 unfolding fields_of later_at zones_at zone_width
 fields_are = (refl, refl, refl, refl, refl)
 
--- "is told by its field count", each of them
+-- U7: "is told by its field count", each of them
 pub form_told :
     (form_of (fields_of first_form) ≡ Some first_form)
     × (form_of (fields_of opening_form) ≡ Some opening_form)
@@ -38,7 +38,7 @@ pub line_back : (form : Form) (s : Supervisor) (limit : ℕ) → Kept s → fiel
 unfolding fields_of later_at zones_at
 line_back form s limit k h =
     let long = length_columns form s in
-    line_again limit (columns_in form s) (omega arith) (omega arith) (columns_in_lem form s k)
+    line_again limit (columns_in form s) (omega arith) (omega arith) (columns_in_range form s k)
 
 -- a form with a place for each waypoint has room for every kept state
 pub carries : (form : Form) (s : Supervisor) → max_waypoints ≤ form.places → Kept s → Carries form s

@@ -1,15 +1,16 @@
--- How many columns each part has, and all.
+-- How many columns each part of a record has, and how many all have.
 use Prim.Native.Nat.{ℕ, ◌+◌, ◌*◌}
 use native.Mathlib.Omega.{arith}
 use mathlib.Core.Bool.{Bool, true, false, cond}
 use mathlib.Core.Path.{◌≡◌, refl, ◌∙◌}
 use mathlib.Core.List.{List, [], ◌∷◌, ◌++◌}
 use lib.ListN.{length, replicate, length-append}
-use Rattle.falcon_guidance.specs.declared.state.Point.{Point}
-use Rattle.falcon_guidance.specs.declared.state.Zone.{Zone}
+use Rattle.falcon_state.specs.declared.point.Point.{Point}
+use Rattle.falcon_state.specs.declared.zone.Zone.{Zone}
 use Rattle.relay_batt.specs.Numbers.{estimator_numbers_of, state_numbers_of, silence_numbers_of, battery_numbers_of}
-use Rattle.falcon_guidance.specs.declared.state.Zones.{Zones}
-use Rattle.falcon_guidance.specs.State.{max_keepout_zones, point_numbers_of, zone_numbers_of}
+use Rattle.falcon_state.specs.declared.zone.Zones.{Zones}
+use Rattle.falcon_state.specs.Point.{point_numbers_of}
+use Rattle.falcon_state.specs.Zone.{max_keepout_zones, zone_numbers_of}
 use Rattle.falcon_totals.specs.Totals.{totals_numbers}
 use Rattle.falcon_core.specs.declared.supervisor.Supervisor.{Supervisor}
 use Rattle.falcon_record.specs.Form.{Form, points_at, zone_width, zones_at, later_at, target_numbers, fields_of}

@@ -1,4 +1,4 @@
--- Stretches of numbers one behind the other, and arrays written as them and filled from them.
+-- Where a number stands in stretches one behind the other, how an array is written as such stretches, and how it is filled from them.
 use Prim.Native.Nat.{ℕ, zero, suc, ◌+◌, ◌*◌, ◌<◌, ◌≤◌}
 use native.Mathlib.Nat.{not-suc-le-zero, mul-zero, mul-suc, mul-le-mul_left}
 use native.Mathlib.Decide.{dec_lt}
@@ -13,7 +13,8 @@ use lib.Seq.{get_or-append-add, ext_get_or}
 use Rattle.std.specs.List.{flat_map}
 use Rattle.std.proofs.lemmas.Grind.{flat_map-append}
 use Rattle.std.proofs.lemmas.List.{get_or_default}
-use Rattle.falcon_core.specs.SoundState.{first_of, filled_of, Tidy}
+use Rattle.falcon_guidance.specs.Lent.{filled_of}
+use Rattle.falcon_core.specs.SoundState.{first_of, Tidy}
 use Rattle.falcon_core.proofs.Places.{length_filled, filled_at, filled_beyond}
 use Rattle.falcon_record.specs.Columns.{placed, place_in}
 

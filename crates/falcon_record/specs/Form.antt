@@ -1,6 +1,7 @@
--- The forms of a line of kind 9. A later request adds columns; which form a line has is told by its field count alone.
-use Rattle.std.specs.Prelude.{ℕ, ◌+◌, ◌*◌, Bool, true, false, cond, List, [], ◌∷◌, eqb, Option, Some, None}
-use Rattle.falcon_guidance.specs.State.{max_keepout_zones, point_numbers_of, zone_numbers_of}
+-- The forms of a line of kind 9: a later request adds columns, and the field count alone tells which form a line has.
+use Rattle.std.specs.Prelude.{ℕ, ◌+◌, ◌*◌, Bool, true, false, cond, List, [], ◌∷◌, find, eqb, Option}
+use Rattle.falcon_state.specs.Point.{point_numbers_of}
+use Rattle.falcon_state.specs.Zone.{zone_numbers_of, max_keepout_zones}
 
 -- places for points, whether a zone has a top, and which later columns there are: the opening's kind; the clock, the target's time, the target and the source
 pub record Form : Type 0 where
@@ -13,7 +14,7 @@ pub record Form : Type 0 where
 abbrev pub points_at : ℕ
 points_at = 55
 
--- the numbers of a zone. U10: "Zone lines have five numbers a zone, the top last, .. and the record of kind 9 too"
+-- the numbers of a zone. U10: "Zone lines have five numbers a zone, the top last", "and the record of kind 9 too"
 unfoldable pub zone_width : Form → ℕ
 zone_width form = cond form.has_tops (zone_numbers_of + 1) zone_numbers_of
 
@@ -25,7 +26,7 @@ zones_at form = points_at + point_numbers_of * form.places
 unfoldable pub later_at : Form → ℕ
 later_at form = zones_at form + zone_width form * max_keepout_zones
 
--- U11: "Clock and target time (two numbers each, high half first), a flag whether there is a target, target .. and source"
+-- U11: "Clock and target time (two numbers each, high half first), a flag whether there is a target, target (0 with time 0 if none) and source"
 abbrev pub target_numbers : ℕ
 target_numbers = 9
 
@@ -56,11 +57,6 @@ target_form = record { places = 64; has_tops = true; has_opening = true; has_tar
 abbrev pub forms : List Form
 forms = first_form ∷ opening_form ∷ long_form ∷ topped_form ∷ target_form ∷ []
 
--- the first of the forms that has so many fields
-abbrev pub form_in : ℕ → List Form → Option Form
-form_in n [] = None
-form_in n (form ∷ l) = cond (eqb (fields_of form) n) (Some form) (form_in n l)
-
 -- U7: "is told by its field count"
 unfoldable pub form_of : ℕ → Option Form
-form_of n = form_in n forms
+form_of n = find (λ form. eqb (fields_of form) n) forms

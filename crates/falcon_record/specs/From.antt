@@ -1,30 +1,35 @@
--- The state that the columns of a line of kind 9 carry. Column k of docs/RECORD.md is number k - 1 here.
+-- The state that the columns of a line of kind 9 carry: column k of docs/RECORD.md is number k - 1 here.
 use Rattle.std.specs.Prelude.{ℕ, ◌+◌, ◌*◌, true, false, List, replicate}
-use Rattle.columns.specs.Line.{number_at, float_at, flag_at_of}
-use Rattle.relay_fsm.specs.Mode.{mode_at_of}
+use Rattle.relay_math.specs.Small.{number_at, float_at, flag_at}
+use Rattle.relay_fsm.specs.Mode.{mode_or_disarmed}
 use Rattle.relay_batt.specs.Config.{for_pack_of}
 use Rattle.relay_batt.specs.declared.battery.Battery.{Battery}
 use Rattle.relay_batt.specs.Numbers.{battery_by}
-use Rattle.falcon_guidance.specs.declared.state.Point.{Point}
-use Rattle.falcon_guidance.specs.declared.state.Zone.{Zone}
-use Rattle.falcon_guidance.specs.declared.state.Config.{Config}
-use Rattle.falcon_guidance.specs.declared.state.Zones.{Zones}
-use Rattle.falcon_guidance.specs.declared.state.Hold.{Hold}
-use Rattle.falcon_guidance.specs.State.{point_of, zone_of, origin, no_zone, point_numbers_of, max_waypoints, max_keepout_zones}
-use Rattle.falcon_failsafe.specs.declared.flight.FlightSupervisor.{FlightSupervisor}
+use Rattle.falcon_state.specs.declared.point.Point.{Point}
+use Rattle.falcon_state.specs.declared.zone.Zone.{Zone}
+use Rattle.falcon_state.specs.declared.config.Config.{Config}
+use Rattle.falcon_state.specs.declared.zone.Zones.{Zones}
+use Rattle.falcon_state.specs.declared.hold.Hold.{Hold}
+use Rattle.falcon_state.specs.Point.{point_of, origin, point_numbers_of, max_waypoints}
+use Rattle.falcon_state.specs.Zone.{zone_of, no_zone, max_keepout_zones}
+use Rattle.falcon_state.specs.declared.flight.FlightSupervisor.{FlightSupervisor}
+use Rattle.falcon_guidance.specs.Lent.{filled_of}
 use Rattle.falcon_totals.specs.declared.DayTotals.{DayTotals}
 use Rattle.falcon_core.specs.declared.supervisor.Supervisor.{Supervisor}
-use Rattle.falcon_core.specs.SoundState.{filled_of}
 use Rattle.falcon_record.specs.Form.{Form, points_at, zones_at, zone_width}
+
+-- the point whose first number is number k
+abbrev pub point_from_of : List ℕ → ℕ → Point
+point_from_of ns k = point_of (float_at ns k) (float_at ns (k + 1)) (float_at ns (k + 2))
 
 unfoldable pub config_from_of : List ℕ → Config
 config_from_of ns =
     record {
-      home = point_of (float_at ns 1) (float_at ns 2) (float_at ns 3);
+      home = point_from_of ns 1;
       fence_radius = float_at ns 4;
       cruise_alt = float_at ns 5;
       low_batt_v = float_at ns 6;
-      calibration_configured = flag_at_of ns 8;
+      calibration_configured = flag_at ns 8;
     }
 
 -- numbers 12 to 32; the pack is the one that the opening volts give for so many cells
@@ -35,8 +40,8 @@ unfoldable pub hold_from : List ℕ → Hold
 hold_from ns =
     record {
       hold_xy = record { x = float_at ns 33; y = float_at ns 34 };
-      hold_regime = flag_at_of ns 35;
-      hold_braking = flag_at_of ns 36;
+      hold_regime = flag_at ns 35;
+      hold_braking = flag_at ns 36;
       brake_s = float_at ns 37;
       brake_rest_s = float_at ns 38;
     }
@@ -54,10 +59,6 @@ totals_from ns =
       terminated = number_at ns 50;
       changed = number_at ns 51;
     }
-
--- the point whose first number is number k
-abbrev pub point_from_of : List ℕ → ℕ → Point
-point_from_of ns k = point_of (float_at ns k) (float_at ns (k + 1)) (float_at ns (k + 2))
 
 -- the zone whose first number is number k
 abbrev pub zone_from : List ℕ → ℕ → Zone
@@ -78,15 +79,15 @@ unfoldable pub flight_from : Form → List ℕ → FlightSupervisor
 flight_from form ns =
     record {
       config = config_from_of ns;
-      fsm = record { mode = mode_at_of (number_at ns 11) };
+      fsm = record { mode = mode_or_disarmed (number_at ns 11) };
       battery = battery_from_of ns;
       mission = record { wp_count = number_at ns 52; wp_index = number_at ns 53 };
       zones = zones_from form ns;
       hold = hold_from ns;
       counts = record { runaway_count = number_at ns 39; wind_count = number_at ns 40 };
       check_table = record { required = number_at ns 9; passed = number_at ns 10 };
-      rtl_latched = flag_at_of ns 41;
-      motors_were_off = flag_at_of ns 42;
+      rtl_latched = flag_at ns 41;
+      motors_were_off = flag_at ns 42;
     }
 
 -- an opened state in which no report is due: kind 8 is refused in any other

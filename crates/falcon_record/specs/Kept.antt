@@ -1,4 +1,4 @@
--- What the columns rest on beside themselves. `Kept` is true of every state that a list of calls leads to, where every lent float is an f32 value.
+-- What the laws of the record rest on beside the columns.
 use Rattle.std.specs.Prelude.{◌≤◌, ◌<◌, ◌^◌, ◌≡◌, true, false}
 use Rattle.columns.specs.Line.{InRange}
 use Rattle.relay_batt.specs.Config.{FromPack}
@@ -7,7 +7,8 @@ use Rattle.falcon_core.specs.declared.supervisor.Supervisor.{Supervisor}
 use Rattle.falcon_core.specs.SoundState.{SoundFlight, FitFlight}
 use Rattle.falcon_record.specs.Form.{Form}
 
--- floats are f32 values, arrays have their lengths and zeros in unused places, and numbers are below 2^32
+-- floats are f32 values, arrays have their lengths and zeros in unused places, and numbers are below 2^32: true of every state that a list of calls leads
+-- to, where every lent float is an f32 value
 pub record Kept (s : Supervisor) : Type 0 where
   pub fit : FitFlight s.flight s.waypoints
   pub sound : SoundFlight s.flight s.waypoints
@@ -15,7 +16,7 @@ pub record Kept (s : Supervisor) : Type 0 where
   pub wind_below : s.flight.counts.wind_count < 2 ^ 32
   pub totals_below : InRange (totals_numbers s.totals)
 
--- kind 8 is accepted in no other state: there was an opening, and no report is due
+-- there was an opening, and no report is due: kind 8 is accepted in no other state
 pub record Ready (s : Supervisor) : Type 0 where
   pub opened : s.opened ≡ true
   pub none_due : s.report_due ≡ false

@@ -2,7 +2,7 @@
 use Rattle.std.specs.Prelude.{ℕ, cond, List, ltb, length, is_ok}
 use Rattle.columns.specs.Line.{over}
 use Rattle.falcon_core.specs.declared.supervisor.Supervisor.{Supervisor}
-use Rattle.falcon_core.specs.declared.calls.Answered.{Answered}
+use Rattle.falcon_core.specs.declared.supervisor.Answered.{Answered}
 use Rattle.falcon_core.specs.Calls.{plans, saves, refused_of, step_of}
 use Rattle.falcon_core.specs.declared.refusal.Refusal.TheVariants.{ShortBuffer}
 use Rattle.falcon_record.specs.Form.{Form, first_form, fields_of}
@@ -12,7 +12,7 @@ use Rattle.falcon_record.specs.Columns.{columns_in}
 abbrev pub written_form : Form
 written_form = first_form
 
--- "the columns of a line of kind 9", as they are written
+-- U2: "the columns of a line of kind 9", as they are written
 unfoldable pub columns_of : Supervisor → List ℕ
 columns_of s = columns_in written_form s
 
@@ -20,7 +20,7 @@ columns_of s = columns_in written_form s
 abbrev pub record_fields : ℕ
 record_fields = fields_of written_form
 
--- "Such a line may have 160 fields": what a buffer or an array for it must have room for
+-- U2: "Such a line may have 160 fields": what a buffer or an array for it must have room for
 abbrev pub record_room : ℕ
 record_room = 160
 

@@ -10,11 +10,9 @@ ghost use Rattle.falcon_record.specs.Columns.{scalar_columns, place_in, point_co
 ghost use Rattle.falcon_record.specs.Saved.{columns_of, save_step, saved_over};
 
 use columns::line::put_numbers;
-use falcon_core::calls::{Answered, refused};
 use falcon_core::refusal::Refusal;
-use falcon_core::supervisor::Supervisor;
-use falcon_failsafe::flight::FlightSupervisor;
-use falcon_guidance::state::{Config, Place, Point, Zone};
+use falcon_core::supervisor::{Answered, Supervisor, refused};
+use falcon_state::{Config, FlightSupervisor, Place, Point, Zone};
 use falcon_totals::DayTotals;
 use relay_batt::Battery;
 use relay_batt::numbers::{estimator_numbers, silence_numbers, state_numbers};
@@ -145,6 +143,7 @@ fn flown_numbers(f: FlightSupervisor, totals: DayTotals) -> [u32; FLOWN]
 }
 
 // The columns before the first point.
+#[tactic(auto, unfolding(crate::specs::Columns::scalar_columns))]
 fn scalar_numbers(s: Supervisor) -> [u32; SCALARS]
     ensures { result ≡ scalar_columns s }
 {
@@ -205,6 +204,7 @@ fn rows<T: Recorded<W>, const W: usize, const N: usize>(
 }
 
 // The state as the columns of a line of kind 9.
+#[tactic(auto, using(crate::proofs::Saving::columns_parts))]
 pub fn record_columns(s: Supervisor) -> [u32; RECORD_FIELDS]
     ensures { result ≡ columns_of s }
 {
@@ -218,6 +218,7 @@ pub fn record_columns(s: Supervisor) -> [u32; RECORD_FIELDS]
 }
 
 // The state by values: the array takes the columns. Under 160 places nothing is put and the refusal is 9.
+#[tactic(auto, using(crate::proofs::Saving::short_refused, crate::proofs::Saving::short_saved, crate::proofs::Saving::full_saved, crate::proofs::Saving::saved_accepted, crate::proofs::Saving::saved_refused))]
 pub fn save(s: Supervisor, numbers: &mut [u32]) -> Answered
     ensures answered { result ≡ save_step s numbers.old }
     ensures array { numbers.new ≡ saved_over s numbers.old }

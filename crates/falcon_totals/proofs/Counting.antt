@@ -1,4 +1,4 @@
--- The totals are counts: those of no call are zero, and one call on each is counted once, up to the limit. Assumes nothing.
+-- The totals are counts: those of no call are zero, and one call on each is counted once, up to the limit.
 use native.Mathlib.Omega.{arith}
 use mathlib.Core.Bool.{Bool, true, false}
 use mathlib.Core.List.{List, [], ◌∷◌}
@@ -27,7 +27,7 @@ pub numbers_are : (l : List Counted) → totals_numbers (totals_of l) ≡ counts
 unfolding totals_numbers counts_of
 numbers_are l = refl
 
--- "Totals start at zero with the opening"
+-- U1: "Totals start at zero with the opening"
 pub totals_none : no_totals ≡ totals_of []
 unfolding no_totals count_of
 totals_none = refl

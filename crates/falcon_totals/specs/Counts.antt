@@ -1,4 +1,4 @@
--- U1: "Each total is shown equal to its count over the calls since the opening, up to that limit".
+-- U1: "Each total is shown equal to its count over the calls since the opening, up to that limit": the counts.
 use Rattle.std.specs.Prelude.{ℕ, suc, min, Bool, cond, not, ◌&&◌, List, [], ◌∷◌, map, eqb}
 use Rattle.relay_fsm.specs.declared.Mode.{Mode}
 use Rattle.relay_fsm.specs.Mode.{mode_number, is_mode}
@@ -13,7 +13,7 @@ pub record Counted : Type 0 where
 abbrev pub ended_in : ℕ → Counted → Bool
 ended_in k c = c.ticked && eqb (mode_number c.ended) k
 
--- it "ended in another mode than [it] began in"
+-- it ended in another mode than it began in
 abbrev pub changes : Counted → Bool
 changes c = not (is_mode c.began c.ended)
 
@@ -22,7 +22,7 @@ unfoldable pub count_of : (Counted → Bool) → List Counted → ℕ
 count_of f [] = 0
 count_of f (c ∷ l) = cond (f c) (suc (count_of f l)) (count_of f l)
 
--- "up to that limit", 4294967295
+-- U1: "up to that limit", 4294967295
 abbrev pub up_to_limit : ℕ → ℕ
 up_to_limit n = min 4294967295 n
 

@@ -1,4 +1,4 @@
--- U1, "Day totals": what is counted of an accepted tick, report or command.
+-- The day totals of U1: what is counted of an accepted tick, report or command.
 use Rattle.std.specs.Prelude.{ℕ, Bool, cond, not, ◌&&◌, List, [], ◌∷◌}
 use Rattle.relay_math.specs.Small.{saturating_add_of}
 use Rattle.relay_fsm.specs.declared.Mode.{Mode}
@@ -6,15 +6,15 @@ use Rattle.relay_fsm.specs.declared.Mode.TheVariants.{Disarmed, Armed, Takeoff, 
 use Rattle.relay_fsm.specs.Mode.{is_mode}
 use Rattle.falcon_totals.specs.declared.DayTotals.{DayTotals}
 
--- "Totals start at zero with the opening"
+-- U1: "Totals start at zero with the opening"
 unfoldable pub no_totals : DayTotals
 no_totals = record { disarmed = 0; armed = 0; takeoff = 0; loiter = 0; mission = 0; land = 0; rtl = 0; terminated = 0; changed = 0 }
 
--- one more where it counts; a total "stay[s] at 4294967295 once there"
+-- one more where it counts. U1: totals "stay at 4294967295 once there"
 abbrev pub one_more_of : ℕ → Bool → ℕ
 one_more_of n more = cond more (saturating_add_of n 1) n
 
--- "the number of accepted ticks that ended in each of the eight modes, and the number of ticks, reports and commands that ended in another mode than they
+-- U1: "the number of accepted ticks that ended in each of the eight modes, and the number of ticks, reports and commands that ended in another mode than they
 -- began in"
 unfoldable pub counted_of : DayTotals → Bool → Mode → Mode → DayTotals
 counted_of t ticked began ended =
@@ -30,7 +30,7 @@ counted_of t ticked began ended =
       changed = one_more_of t.changed (not (is_mode began ended));
     }
 
--- "the nine totals", as an answer line has them
+-- U1: "the nine totals", as an answer line has them
 abbrev pub totals_count : ℕ
 totals_count = 9
 

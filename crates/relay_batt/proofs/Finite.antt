@@ -1,4 +1,4 @@
--- An f32 and at most one second more is finite: the largest f32 and 1.0 more rounds to the largest f32. Assumes nothing.
+-- An f32 and at most one second more is finite, since the largest f32 and 1.0 more rounds to the largest f32.
 use Rattle.std.proofs.Common.{◌≡◌, ℕ, zero, suc, ◌+◌, ◌-◌, ◌*◌, ◌%◌, ◌^◌, ◌<◌, ◌≤◌, Bool, true, false, cond, not, ◌&&◌, T, eqb, ltb, leb, ℤ, pos, negsuc, sym, ap, ◌∙◌, subst, zero-le, le_trans, le_of_eq, le_refl, le_of_lt, mul-le-mul_right, mul_assoc, mul_comm, add-mul, mul-le-mul, lt_of_mul-lt-mul_right, mul-pos, one-mul, zero-mul, mul-one, sub-add_cancel, sub-le, arith, lit<, lit≤, eqb→eq, ltb→lt, leb→le, pow_pos, pow_mono, pow-add}
 use mathlib.Core.Bool.{beq}
 use lib.Dec.{nleb→lt}
@@ -7,9 +7,9 @@ use lib.Ieee.Fits.{down_pos, and_l, and_r, round_is}
 use lib.Ieee.Order.{drop, kept}
 use lib.Ieee.Positive.{num, den}
 use lib.Ieee.Scale.{finite, overflow}
-use Rattle.relay_batt.specs.Curve as curve
+use Rattle.relay_math.specs.Small.{f32_zero, f32_one}
 use Rattle.relay_batt.specs.Bounds.{Within}
-use Rattle.relay_batt.proofs.Order.{within_finite}
+use Rattle.relay_batt.proofs.Bounds.{within_finite}
 use Rattle.relay_batt.proofs.NonNeg.{NonNeg, plus, nonneg_is, nonneg_finite, rounded, le→cross}
 
 -- ---- a rounded fraction below a finite one is finite, whatever its sign
@@ -76,12 +76,12 @@ fits_small (fin s (suc m) e) p t =
 no_more : (m u d : ℕ) → 0 * d ≡ m * u * 1 → m * u ≤ d
 no_more m u d e = let z = zero-mul d in let o = mul-one (m * u) in omega arith
 
-seconds : (y : Float) → Within curve.zero curve.one y → num y ≤ den y
+seconds : (y : Float) → Within f32_zero f32_one y → num y ≤ den y
 unfolding of_bits le
 seconds nan w = zero-le
 seconds (inf s) w = zero-le
 seconds (fin true m e) w = no_more m (up e) (down e) (eqb→eq (0 * down e) (m * up e * 1) (and_l (eqb (0 * down e) (m * up e * 1)) (eqb (0 * down e) 0) w.low))
-seconds (fin false m e) w = let h = le→cross (plus m e) (nonneg_is curve.one tt) w.high in omega (arith, mul-one (m * up e), one-mul (down e))
+seconds (fin false m e) w = let h = le→cross (plus m e) (nonneg_is f32_one tt) w.high in omega (arith, mul-one (m * up e), one-mul (down e))
 
 -- ---- their sum
 left : (a b : ℕ) → a ≤ a + b
@@ -129,6 +129,6 @@ unfolding round
 largest_kept = plus _ _
 
 -- an f32 of seconds and at most one second more
-pub later_finite : (x y : Float) → T (finite x) → T (fits binary32 x) → Within curve.zero curve.one y → T (finite (add binary32 x y))
+pub later_finite : (x y : Float) → T (finite x) → T (fits binary32 x) → Within f32_zero f32_one y → T (finite (add binary32 x y))
 unfolding of_bits
-later_finite x y p t w = add_small binary32 x y largest p (within_finite curve.zero curve.one y tt tt w) (fits_small x p t) (seconds y w) largest_kept
+later_finite x y p t w = add_small binary32 x y largest p (within_finite f32_zero f32_one y tt tt w) (fits_small x p t) (seconds y w) largest_kept

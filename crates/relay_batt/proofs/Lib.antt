@@ -1,9 +1,8 @@
 mod Walk
-mod Order
+pub mod Bounds
 mod NonNeg
 mod Finite
 mod Trip
-mod Examples
 pub mod CurveBounds
 pub mod Cells
 pub mod NotBelow

@@ -1,5 +1,5 @@
--- Finite floats with the sign +, zero included: their order is that of fractions, and differences, products, quotients and sums grow with
--- one operand as long as the larger result is finite. Assumes nothing.
+-- Of finite floats with the sign +, zero included, the order is that of fractions, and differences, products, quotients and sums grow with
+-- one operand as long as the larger result is finite.
 use Rattle.std.proofs.Common.{◌≡◌, ℕ, zero, suc, ◌+◌, ◌-◌, ◌*◌, ◌^◌, ◌<◌, ◌≤◌, Bool, true, false, cond, not, ◌&&◌, ◌||◌, T, eqb, ltb, ℤ, sym, refl, ◌∙◌, subst, le_trans, le_of_eq, le_of_lt, mul-le-mul_right, zero-lt-suc, mul_assoc, mul_comm, add-mul, mul-pos, not-le_of_lt, mul_left_comm, arith, eqb→eq, ltb→lt}
 use native.Mathlib.Nat.{mul-sub, mul-mul-mul_comm}
 use lib.Dec.{eqb-suc-zero}

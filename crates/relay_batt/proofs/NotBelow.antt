@@ -1,4 +1,4 @@
--- Volts of 0 to 60 that are at least the opening's, itself not negative, are not below it, whatever the cell count. Assumes nothing.
+-- Volts of 0 to 60 that are at least the opening's, itself not negative, are not below it, whatever the cell count is.
 use Rattle.std.proofs.Common.{◌≡◌, ℕ, zero, suc, ◌*◌, ◌^◌, ◌<◌, ◌≤◌, false, T, sym, ap, ◌∙◌, subst, le_trans, le_of_eq, zero-lt-suc, mul_assoc, mul_comm, mul-le-mul, mul-pos, zero-mul, mul-one, not-le_of_lt, arith, lit<, lit≤}
 use Rattle.std.proofs.lemmas.Float.{lt_irrefl, lt_of_lt_of_le}
 use lib.Dec.{eqb-suc-zero, not_T}

@@ -1,12 +1,13 @@
--- The walk along the table, by the knots that are left of it. Assumes nothing.
+-- A step of the walk along the table ends at the first two knots that are left of it or passes the first.
 use Rattle.std.proofs.Common.{◌≡◌, ◌<◌, ◌≤◌, true, false, List, [], ◌∷◌, length, get_or, take, drop, refl, arith}
 use lib.Ieee.{Float, nan, le}
-use Rattle.relay_batt.specs.Curve.{one, between, walk}
+use Rattle.relay_math.specs.Small.{f32_one}
+use Rattle.relay_batt.specs.Curve.{between, walk}
 use Rattle.relay_batt.specs.declared.curve.Knot.{Knot}
 
 -- the charge that is found from there on
 abbrev pub rest : Float → List Knot → Float
-rest v [] = one
+rest v [] = f32_one
 rest v (a ∷ l) = walk v a l
 
 -- what the code reads beyond a table
@@ -27,7 +28,7 @@ passed v [] h e = absurd (omega arith)
 passed v (a ∷ []) h e = absurd (omega arith)
 passed v (a ∷ (b ∷ l)) h e = simp e
 
-pub ended : (v : Float) (l : List Knot) → length l < 2 → one ≡ rest v l
+pub ended : (v : Float) (l : List Knot) → length l < 2 → f32_one ≡ rest v l
 unfolding walk
 ended v [] h = refl
 ended v (a ∷ []) h = refl

@@ -1,22 +1,10 @@
 -- `sanitize` and the curve `ocv_soc_cell` of relay-batt.
-use Rattle.std.specs.Prelude.{ℕ, cond, List, [], ◌∷◌, from_bits, Float}
+use Rattle.std.specs.Prelude.{ℕ, cond, List, [], ◌∷◌, Float}
 use Rattle.std.specs.Float.{binary32}
 use Rattle.std.specs.Float.Ieee.{add, sub, mul, div, le}
 use Rattle.std.specs.Float.Ieee.Scale.{finite}
-use Rattle.relay_math.specs.Small.{clamp_of}
+use Rattle.relay_math.specs.Small.{f32, f32_zero, f32_one, clamp_of}
 use Rattle.relay_batt.specs.declared.curve.Knot.{Knot}
-
--- an f32 by its bits
-abbrev pub f32 : ℕ → Float
-f32 b = from_bits binary32 b
-
--- 0.0
-abbrev pub zero : Float
-zero = f32 0
-
--- 1.0
-abbrev pub one : Float
-one = f32 0x3f80_0000
 
 -- `sanitize`: what is not finite becomes the default, and then the number is cut to lo..hi
 unfoldable pub sanitize_of : Float → Float → Float → Float → Float
@@ -45,13 +33,13 @@ between a b v = add binary32 a.s (div binary32 (mul binary32 (sub binary32 b.s a
 
 -- the loop of `ocv_soc_cell`: the first knot that is not below v ends the segment, and above the last the charge is 1
 unfoldable pub walk : Float → Knot → List Knot → Float
-walk v a [] = one
+walk v a [] = f32_one
 walk v a (b ∷ l) = cond (le v b.v) (between a b v) (walk v b l)
 
 -- a table of knots at v: 0 up to its first knot
 unfoldable pub table_of : List Knot → Float → Float
-table_of [] v = zero
-table_of (a ∷ l) v = cond (le v a.v) zero (walk v a l)
+table_of [] v = f32_zero
+table_of (a ∷ l) v = cond (le v a.v) f32_zero (walk v a l)
 
 -- 5.0 V, the most that a cell is taken to have
 abbrev pub cell_max : Float
@@ -59,4 +47,4 @@ cell_max = f32 0x40a0_0000
 
 -- `ocv_soc_cell`: the curve at the volts cut to 0..5
 unfoldable pub ocv_soc_cell_of : Float → Float
-ocv_soc_cell_of v = table_of knots (sanitize_of v zero cell_max zero)
+ocv_soc_cell_of v = table_of knots (sanitize_of v f32_zero cell_max f32_zero)

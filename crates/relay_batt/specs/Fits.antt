@@ -14,7 +14,7 @@ abbrev pub Fit : Float → Type 0
 Fit x = T (fits binary32 x)
 
 -- those of a configuration
-pub record FitConfig (c : BattConfig) : Type 0 where
+pub record FitBattConfig (c : BattConfig) : Type 0 where
   pub capacity : Fit c.capacity_mah
   pub internal : Fit c.r_internal
   pub low_soc : Fit c.low_soc
@@ -25,7 +25,7 @@ pub record FitConfig (c : BattConfig) : Type 0 where
 
 -- those of an estimator
 pub record FitEstimator (e : BatteryEstimator) : Type 0 where
-  pub config : FitConfig e.cfg
+  pub config : FitBattConfig e.cfg
   pub used : Fit e.consumed_mah
   pub resistance : Fit e.r_est
   pub volts : Fit e.prev_v

@@ -2,12 +2,12 @@
 use Rattle.std.specs.Prelude.{Bool, false, cond, Float}
 use Rattle.std.specs.Float.{binary32}
 use Rattle.std.specs.Float.Ieee.{add, le}
-use Rattle.relay_batt.specs.Curve.{zero}
+use Rattle.relay_math.specs.Small.{f32_zero}
 use Rattle.relay_batt.specs.declared.latch.TripLatch.{TripLatch}
 
 -- `TripLatch::default`
 abbrev pub new_latch_of : TripLatch
-new_latch_of = record { below_s = zero; latched = false }
+new_latch_of = record { below_s = f32_zero; latched = false }
 
 -- an excursion that goes on: it trips where it has lasted `debounce` seconds
 abbrev pub excursion_of : Float → Float → TripLatch

@@ -1,7 +1,7 @@
 // The battery as the supervisor holds it: the estimator, what is shown, and how long no reading came.
 
 ghost use Rattle.std.specs.Prelude.{◌≡◌};
-ghost use Rattle.relay_batt.specs.Battery.{opened_of, update_of, heard_of, lost_of};
+ghost use Rattle.relay_batt.specs.Battery.{new_battery_of, update_of, heard_of, lost_of};
 
 use crate::config::BattConfig;
 use crate::estimator::{BattState, BatteryEstimator, Updated};
@@ -28,9 +28,9 @@ impl Battery {
     pub const BATT_SILENCE_S: f32 = 1.0;
 
     // Before the first reading.
-    #[tactic(auto, unfolding(crate::specs::Battery::opened_of, crate::specs::Estimator::none_of))]
+    #[tactic(auto, unfolding(crate::specs::Battery::new_battery_of, crate::specs::Estimator::none_of))]
     pub fn new(cfg: BattConfig) -> Battery
-        ensures { result ≡ opened_of cfg }
+        ensures { result ≡ new_battery_of cfg }
     {
         Battery {
             est: BatteryEstimator::new(cfg),

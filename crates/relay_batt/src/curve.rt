@@ -46,7 +46,7 @@ fn segment(k0: Knot, k1: Knot, v: f32) -> f32
     k0.s + (k1.s - k0.s) * (v - k0.v) / (k1.v - k0.v)
 }
 
-// The charge of a cell by its resting volts; 0 for volts that are not finite.
+// The charge of a cell by its resting volts; 0 for volts that are not finite: what can't be read counts as empty.
 #[tactic(auto, unfolding(crate::specs::Curve::ocv_soc_cell_of, crate::specs::Curve::table_of, crate::specs::Curve::knots))]
 pub fn ocv_soc_cell(v_cell: f32) -> f32
     ensures { result ≡ ocv_soc_cell_of v_cell }

@@ -1,7 +1,7 @@
-// The estimator: charge used, resistance of the pack, charge left, and the two flags.
+// The estimator: charge used, resistance of the pack, charge left, and the two flags. Volts alone mislead: a half-full pack sags under load, and a spent one recovers at low throttle.
 
 ghost use Rattle.std.specs.Prelude.{◌≡◌};
-ghost use Rattle.relay_batt.specs.Estimator.{new_of, reset_of, consumed_of, big_step_of, blend_of, r_est_of, rest_of, soc_of, shown_of, latched_of, with_amps_of, volts_only_of, read_of};
+ghost use Rattle.relay_batt.specs.Estimator.{new_estimator_of, reset_of, consumed_of, big_step_of, blend_of, r_est_of, rest_volts_of, soc_of, shown_of, latched_of, with_amps_of, volts_only_of, estimator_update_of};
 
 use crate::config::BattConfig;
 use crate::curve::{ocv_soc_cell, sanitize};
@@ -42,6 +42,7 @@ pub struct Updated {
 }
 
 impl BatteryEstimator {
+    // Volts and amps beyond these are a sensor's error.
     pub const V_MAX: f32 = 60.0;
 
     pub const I_MAX: f32 = 500.0;
@@ -52,6 +53,7 @@ impl BatteryEstimator {
 
     pub const R_MAX: f32 = 0.2;
 
+    // In a smaller step of current the noise is larger than what it says.
     pub const R_STEP_MIN_A: f32 = 5.0;
 
     pub const R_ALPHA: f32 = 0.05;
@@ -59,9 +61,9 @@ impl BatteryEstimator {
     pub const MAH_PER_A_S: f32 = 1000.0 / 3600.0;
 
     // Nothing used, and the resistance that the configuration gives.
-    #[tactic(auto, unfolding(crate::specs::Estimator::new_of))]
+    #[tactic(auto, unfolding(crate::specs::Estimator::new_estimator_of))]
     pub fn new(cfg: BattConfig) -> BatteryEstimator
-        ensures { result ≡ new_of cfg }
+        ensures { result ≡ new_estimator_of cfg }
     {
         let r_est = sanitize(
             cfg.r_internal,
@@ -81,7 +83,7 @@ impl BatteryEstimator {
         }
     }
 
-    // A new pack: count and latches anew, the resistance is kept.
+    // A new pack: count and latches anew. The resistance is kept, since the wiring's is part of it.
     #[tactic(auto, unfolding(crate::specs::Estimator::reset_of))]
     pub fn reset(self) -> BatteryEstimator
         ensures { result ≡ reset_of self }
@@ -95,7 +97,7 @@ impl BatteryEstimator {
         }
     }
 
-    // The charge used after `dt` seconds of `i` amps, at most the capacity.
+    // The charge used after `dt` seconds of `i` amps, at most the capacity, so that it can't drift away.
     #[tactic(auto, unfolding(crate::specs::Estimator::consumed_of))]
     fn consumed(self, dt: f32, i: f32) -> f32
         ensures { result ≡ consumed_of self dt i }
@@ -144,14 +146,14 @@ impl BatteryEstimator {
     }
 
     // The volts without the sag.
-    #[tactic(auto, unfolding(crate::specs::Estimator::rest_of))]
+    #[tactic(auto, unfolding(crate::specs::Estimator::rest_volts_of))]
     fn rest_volts(v: f32, i: f32, r_est: f32) -> f32
-        ensures { result ≡ rest_of v i r_est }
+        ensures { result ≡ rest_volts_of v i r_est }
     {
         sanitize(v + i * r_est, 0.0, Self::V_MAX, 0.0)
     }
 
-    // The lower of the charge left by the count and the charge by the curve.
+    // The lower of the charge left by the count and the charge by the curve: the pack is healthy only where both say so.
     #[tactic(auto, unfolding(crate::specs::Estimator::soc_of, crate::specs::Estimator::soc_coulomb_of))]
     fn soc(cfg: BattConfig, consumed_mah: f32, rest: f32) -> f32
         ensures { result ≡ soc_of cfg consumed_mah rest }
@@ -227,7 +229,7 @@ impl BatteryEstimator {
         }
     }
 
-    // Volts alone, cut to their range: no count and no sag, and thresholds in volts.
+    // Volts alone, cut to their range: what was used is unknown and held, and sag can't be told from discharge, so the thresholds are in volts and trip earlier.
     #[tactic(auto, unfolding(crate::specs::Estimator::volts_only_of))]
     fn volts_only(self, dt: f32, v: f32) -> Updated
         ensures { result ≡ volts_only_of self dt v }
@@ -247,9 +249,9 @@ impl BatteryEstimator {
     }
 
     // A reading of volts, with amps or without.
-    #[tactic(auto, unfolding(crate::specs::Estimator::update_amps_of, crate::specs::Estimator::update_volts_of))]
+    #[tactic(auto, unfolding(crate::specs::Estimator::estimator_update_of))]
     pub fn update(self, dt_s: f32, volts: f32, amps: Option<f32>) -> Updated
-        ensures { result ≡ read_of self dt_s volts amps }
+        ensures { result ≡ estimator_update_of self dt_s volts amps }
     {
         let dt = sanitize(dt_s, 0.0, Self::DT_MAX, 0.0);
         let v = sanitize(volts, 0.0, Self::V_MAX, 0.0);

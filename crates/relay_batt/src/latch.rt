@@ -1,4 +1,4 @@
-// A flag that trips after an excursion has lasted, and stays.
+// A flag that trips after an excursion has lasted, and stays: a pack does not charge in flight.
 
 ghost use Rattle.std.specs.Prelude.{◌≡◌};
 ghost use Rattle.relay_batt.specs.Latch.{trip_of};

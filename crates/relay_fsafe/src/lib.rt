@@ -12,11 +12,11 @@ use std::fmt;
 pub enum FailsafeAction {
     // Fly the commanded mode.
     None,
-    // Hold position and altitude, and wait.
+    // Hold position and altitude, and wait for what may resume.
     Hold,
     // Return to launch; needs a position.
     Rtl,
-    // Land here.
+    // Land here: there is no position, or no time, to fly home.
     Land,
     // Cut the motors.
     Terminate,
@@ -50,7 +50,7 @@ impl fmt::Display for UnknownAction {
 impl Error for UnknownAction {}
 
 // The action of this severity.
-#[tactic(auto, unfolding(crate::specs::Fsafe::action_at, crate::specs::Fsafe::action_at_of))]
+#[tactic(auto, unfolding(crate::specs::Fsafe::action_at))]
 impl TryFrom<u32> for FailsafeAction {
     type Error = UnknownAction;
 
@@ -88,7 +88,7 @@ pub struct Triggers {
 }
 
 impl Triggers {
-    // The gravest action that a raised trigger asks for.
+    // The gravest action that a raised trigger asks for. Position loss asks for Land, which is graver than Rtl: without a position there is no way home.
     #[tactic(auto, unfolding(crate::specs::Fsafe::policy_action_of))]
     pub fn policy_action(self) -> FailsafeAction
         ensures { result ≡ policy_action_of self }
@@ -129,7 +129,7 @@ impl FailsafeArbiter {
         }
     }
 
-    // The arbiter after this cycle's triggers; what it latches is the action to take.
+    // The arbiter after this cycle's triggers; what it latches is the action to take. A trigger that was raised for a moment is not forgotten.
     #[tactic(auto, unfolding(crate::specs::Fsafe::evaluate_of, crate::specs::Fsafe::graver_of))]
     pub fn evaluate(self, t: Triggers) -> FailsafeArbiter
         ensures { result ≡ evaluate_of self t }

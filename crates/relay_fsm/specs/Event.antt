@@ -1,5 +1,5 @@
--- What document 01, "Mode and event", says of the events: their numbers, both ways.
-use Rattle.std.specs.Prelude.{Bool, cond, ℕ, List, [], ◌∷◌, eqb, ltb, get_or, Option, Some, None}
+-- The events of document 01, "Mode and event": their numbers, both ways.
+use Rattle.std.specs.Prelude.{Bool, ℕ, List, [], ◌∷◌, eqb, slice_get, Option}
 use Rattle.relay_fsm.specs.declared.Event.{Event}
 use Rattle.relay_fsm.specs.declared.Event.TheVariants.{Arm, RequestTakeoff, RequestMission, RequestLoiter, RequestRtl, RequestLand, RequestDisarm, ReachedAltitude, ReachedHome, Touchdown, Failsafe, Terminate}
 
@@ -18,15 +18,11 @@ event_number Touchdown = 9
 event_number Failsafe = 10
 event_number Terminate = 11
 
--- The events are numbered from 0 to 11.
-abbrev pub event_count : ℕ
-event_count = 12
-
--- Whether an event is the one that a row of the Rust's match names.
+-- whether an event is the one that a row of the Rust's match names.
 abbrev pub is_event : Event → Event → Bool
 is_event e f = eqb (event_number e) (event_number f)
 
--- The events in the order of their numbers.
+-- the events in the order of their numbers.
 abbrev pub all_events : List Event
 all_events =
     Arm
@@ -45,4 +41,4 @@ all_events =
 
 -- `Event::try_from`: the event with a number, none above 11.
 unfoldable pub event_at : ℕ → Option Event
-event_at n = cond (ltb n event_count) (Some (get_or all_events n Arm)) None
+event_at n = slice_get all_events n

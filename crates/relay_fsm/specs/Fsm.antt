@@ -1,4 +1,4 @@
--- The mode machine of `FlightFsm::on`: the rows of the Rust's match in its order, and the mode after an event.
+-- The mode machine of document 01, "Mode and event": the rows of the match of `FlightFsm::on`, and the mode after an event.
 use Rattle.std.specs.Prelude.{Bool, ◌&&◌, ◌||◌, cond, Option, Some, None, unwrap_or}
 use Rattle.relay_fsm.specs.declared.Mode.{Mode}
 use Rattle.relay_fsm.specs.declared.Mode.TheVariants.{Disarmed, Armed, Takeoff, Loiter, Mission, Land, Rtl, Terminated}
@@ -8,15 +8,15 @@ use Rattle.relay_fsm.specs.declared.Gates.{Gates}
 use Rattle.relay_fsm.specs.Mode.{is_mode}
 use Rattle.relay_fsm.specs.Event.{is_event}
 
--- A row of the match: where it applies it leads to its mode, elsewhere the rows after it decide.
+-- a row of the match: where it applies it leads to its mode, elsewhere the rows after it decide.
 abbrev row : Bool → Mode → Option Mode → Option Mode
 row applies n rest = cond applies (Some n) rest
 
--- Whether a mode and an event are the pair that a row names.
+-- whether a mode and an event are the pair that a row names.
 abbrev pub is_pair : Mode → Event → Mode → Event → Bool
 is_pair m e n f = is_event e f && is_mode m n
 
--- The match of `FlightFsm::on`, row by row in its order, all but the last: `None` where none of them applies.
+-- the match of `FlightFsm::on`, row by row in its order, all but the last: `None` where none of them applies.
 unfoldable pub row_of : Mode → Event → Gates → Option Mode
 row_of m e g =
     row (is_pair m e Disarmed Arm && g.level && g.throttle_low && g.prearm_ok) Armed

@@ -1,5 +1,5 @@
--- What document 01, "Mode and event", says of the modes: their numbers, which are airborne, and their ranks.
-use Rattle.std.specs.Prelude.{Bool, true, false, cond, ℕ, List, [], ◌∷◌, eqb, ltb, get_or, Option, Some, None}
+-- The modes of document 01, "Mode and event": their numbers, which of them are airborne, and their ranks.
+use Rattle.std.specs.Prelude.{Bool, true, false, ℕ, List, [], ◌∷◌, eqb, get_or, slice_get, Option}
 use Rattle.relay_fsm.specs.declared.Mode.{Mode}
 use Rattle.relay_fsm.specs.declared.Mode.TheVariants.{Disarmed, Armed, Takeoff, Loiter, Mission, Land, Rtl, Terminated}
 
@@ -18,19 +18,15 @@ mode_number Terminated = 7
 abbrev pub modes : List Mode
 modes = Disarmed ∷ Armed ∷ Takeoff ∷ Loiter ∷ Mission ∷ Land ∷ Rtl ∷ Terminated ∷ []
 
--- how many modes there are
-abbrev pub mode_count : ℕ
-mode_count = 8
-
--- the mode with a number below 8
-unfoldable pub mode_at_of : ℕ → Mode
-mode_at_of n = get_or modes n Disarmed
-
--- the mode with a number, none from 8 on
+-- `Mode::try_from`: the mode with a number, none above 7
 unfoldable pub mode_at : ℕ → Option Mode
-mode_at n = cond (ltb n mode_count) (Some (mode_at_of n)) None
+mode_at n = slice_get modes n
 
--- Whether a mode is the one that a row of the Rust's match names.
+-- the mode with a number, Disarmed above 7
+unfoldable pub mode_or_disarmed : ℕ → Mode
+mode_or_disarmed n = get_or modes n Disarmed
+
+-- whether a mode is the one that a row of the Rust's match names
 abbrev pub is_mode : Mode → Mode → Bool
 is_mode m n = eqb (mode_number m) (mode_number n)
 
@@ -45,7 +41,7 @@ is_airborne_of Land = true
 is_airborne_of Rtl = true
 is_airborne_of Terminated = false
 
--- The supervisor's `mode_rank`: "Rank: Terminated 4, Land 3, Rtl 2, others 1."
+-- the supervisor's `mode_rank`: "Rank: Terminated 4, Land 3, Rtl 2, others 1."
 abbrev pub rank_of : Mode → ℕ
 rank_of Disarmed = 1
 rank_of Armed = 1

@@ -25,12 +25,12 @@ pub enum Mode {
     Land,
     // Returning to launch.
     Rtl,
-    // Motors cut in the air; no event leads out.
+    // Motors cut in the air, the last resort in a tumble; no event leads out.
     Terminated,
 }
 
 impl Mode {
-    // Whether the motors must not be cut in this mode.
+    // Whether the motors must not be cut in this mode. In Terminated they are cut already.
     pub fn is_airborne(self) -> bool
         ensures { result ≡ is_airborne_of self }
     {
@@ -40,7 +40,7 @@ impl Mode {
         )
     }
 
-    // How grave the mode is: a failsafe acts only where it wants a higher rank.
+    // How grave the mode is. A failsafe acts only where it wants a higher rank: a breach lasts while the vehicle flies home, and acting on it again in Rtl would land outside the fence.
     pub fn rank(self) -> u32
         ensures { result ≡ rank_of self }
     {
@@ -84,7 +84,7 @@ impl fmt::Display for UnknownMode {
 impl Error for UnknownMode {}
 
 // The mode with this number.
-#[tactic(auto, unfolding(crate::specs::Mode::mode_at, crate::specs::Mode::mode_at_of))]
+#[tactic(auto, unfolding(crate::specs::Mode::mode_at))]
 impl TryFrom<u32> for Mode {
     type Error = UnknownMode;
 
@@ -232,6 +232,7 @@ impl FlightFsm {
     {
         let mode = match (self.mode, ev) {
             (Mode::Disarmed, Event::Arm) if g.level && g.throttle_low && g.prearm_ok => Mode::Armed,
+            // Disarmed only on the ground: a request in the air changes nothing.
             (Mode::Armed, Event::RequestDisarm) => Mode::Disarmed,
             (Mode::Land, Event::Touchdown) => Mode::Disarmed,
             (Mode::Armed, Event::RequestTakeoff) if g.have_position => Mode::Takeoff,
@@ -242,6 +243,7 @@ impl FlightFsm {
             (Mode::Loiter | Mode::Mission | Mode::Rtl, Event::RequestLand) => Mode::Land,
             (Mode::Loiter | Mode::Mission | Mode::Takeoff, Event::RequestRtl) => Mode::Rtl,
             (Mode::Rtl, Event::ReachedHome) => Mode::Land,
+            // A failsafe in the air flies home or lands, and never disarms.
             (Mode::Takeoff | Mode::Loiter | Mode::Mission, Event::Failsafe) => {
                 if g.have_position {
                     Mode::Rtl
@@ -250,6 +252,7 @@ impl FlightFsm {
                 }
             }
             (Mode::Rtl, Event::Failsafe) => Mode::Land,
+            // From every mode: nothing is more urgent than to end a tumble.
             (_, Event::Terminate) => Mode::Terminated,
             (mode, _) => mode,
         };

@@ -1,4 +1,4 @@
--- The root's rounding and exponent range, applied to an exact number a / 2 ^ l, are `round`, with which every operation of the float library that can be inexact ends: so overflow and underflow are its own. Assumes nothing.
+-- The root's rounding and exponent range, applied to an exact number a / 2 ^ l, are `round`, with which every operation of the float library that can be inexact ends: so overflow and underflow are its own.
 use mathlib.Core.Path.{◌≡◌, refl, sym, ap, ◌∙◌, subst}
 use mathlib.Core.Bool.{Bool, true, false, not, cond}
 use Prim.Native.Nat.{ℕ, zero, suc, ◌+◌, ◌-◌, ◌*◌, ◌/◌, ◌%◌, ◌^◌, ◌≤◌, ◌<◌, compare, Ordering}
@@ -100,9 +100,9 @@ low_pow : (f : Format) (a : ℕ) → a * 2 ^ (emax f - 1) * 2 ^ (prec f - 1) ≡
 low_pow f a = mul_assoc a (2 ^ (emax f - 1)) (2 ^ (prec f - 1)) ∙ ap (λ (x : ℕ). a * x) (sym (pow-add 2 (emax f - 1) (prec f - 1)) ∙ ap (λ (x : ℕ). 2 ^ x) (low_is f))
 
 -- 2 ^ (prec - 1) smallest values are in the format's range
-few : (f : Format) → prec f - 1 < low f + suc (emax f)
-few binary32 = lit< tt
-few binary64 = lit< tt
+units_in_range : (f : Format) → prec f - 1 < low f + suc (emax f)
+units_in_range binary32 = lit< tt
+units_in_range binary64 = lit< tt
 
 -- no digit is dropped
 none : (f : Format) (z : ℕ) → z ≤ prec f - 1 → z - prec f ≡ 0
@@ -118,7 +118,7 @@ round_tiny f a l h =
     let big = 2 ^ (low f + suc (emax f)) in
     let n-lt : n < 2 ^ (prec f - 1) * c = lt_of_le_of_lt (le_of_eq (sym (low_pow f a))) (lt_of_lt_of_le (mul-lt-mul_of_pos_right h (pow_pos (prec f - 1))) (le_of_eq (mul_comm c (2 ^ (prec f - 1))))) in
     let w-lt : n / c < 2 ^ (prec f - 1) = (div-lt_iff_lt-mul (pow_pos l)).1 n-lt in
-    let q-lt : q * 1 < big = lt_of_le_of_lt (le_of_eq (mul-one q)) (lt_of_le_of_lt (le_trans (nearest-le (n / c) (compare (n % c * 2) c)) w-lt) (pow-lt (few f))) in
+    let q-lt : q * 1 < big = lt_of_le_of_lt (le_of_eq (mul-one q)) (lt_of_le_of_lt (le_trans (nearest-le (n / c) (compare (n % c * 2) c)) w-lt) (pow-lt (units_in_range f))) in
     round_is f false a c
     ∙ ap (λ (k : ℕ). units f false (closest n (c * 2 ^ k)) k) (none f (size (n / c)) (size-le (n / c) (prec f - 1) w-lt))
     ∙ ap (λ (u : ℕ). units f false (closest n u) 0) (mul-one c)
@@ -169,9 +169,9 @@ tiny_test a l i =
     ∙ ap (ltb (a * 2 ^ i * (a * 2 ^ i))) (four l)
     ∙ ltb_same (a * 2 ^ i * (a * 2 ^ i)) (2 ^ l * 2 ^ l) (a * 2 ^ i) (2 ^ l) (sq_lt_back (a * 2 ^ i) (2 ^ l)) (sq_lt (a * 2 ^ i) (2 ^ l))
 
-above : (a i l : ℕ) → 2 ^ l ≤ a * 2 ^ i → 0 < a
-above zero i l h = lt_of_lt_of_le (pow_pos l) (le_trans h (le_of_eq (zero-mul (2 ^ i))))
-above (suc a) i l h = omega arith
+number_pos : (a i l : ℕ) → 2 ^ l ≤ a * 2 ^ i → 0 < a
+number_pos zero i l h = lt_of_lt_of_le (pow_pos l) (le_trans h (le_of_eq (zero-mul (2 ^ i))))
+number_pos (suc a) i l h = omega arith
 
 -- the last two steps of the root, on an exact number, are `round`
 pub as_round : (f : Format) (a l : ℕ) → exponent_range_of f (exactly a l) (rounding f (exactly a l)) ≡ round f false a (2 ^ l)
@@ -198,40 +198,26 @@ as_round f a l =
         ∙ ap (λ (q : ℕ). odd d false q 0 (low f)) (nearest_of_square (a * 2 ^ low f) l)
         ∙ sym (round_tiny f a l (h tt))
     go false h g =
-        let p = above a (emax f - 1) l (g tt) in
+        let p = number_pos a (emax f - 1) l (g tt) in
         let r = round_normal f a l p (g tt) in
         ap ranged (rounding_of_exact f a l p) ∙ range_same f (closest (a * 2 ^ prec f) (2 ^ size a)) r.0 (size a) (l + prec f) r.1 ∙ sym r.2
 
 -- ---- the exponent's range changes what the rounding gives
--- 2 ^ 127 times 2 ^ 127: the rounding keeps 2 ^ 254
-large_rounded : rounding binary32 (exactly (2 ^ 254) 0) ≡ fin false 1 (pos 254)
-unfolding rounding to_digits nearest_root_of whole_root_of root_by size odd
-large_rounded = refl
+-- 2 ^ 127 times 2 ^ 127: the rounding keeps 2 ^ 254, the range makes it infinity, and so does the multiplication
+large_product :
+    (rounding binary32 (exactly (2 ^ 254) 0) ≡ fin false 1 (pos 254))
+    × (exponent_range_of binary32 (exactly (2 ^ 254) 0) (fin false 1 (pos 254)) ≡ inf false)
+    × (mul binary32 (fin false 1 (pos 127)) (fin false 1 (pos 127)) ≡ inf false)
+unfolding rounding to_digits exponent_range_of nearest_root_of whole_root_of root_by size odd lt mul
+large_product = (refl, refl, refl)
 
--- the range makes it infinity
-large_ranged : exponent_range_of binary32 (exactly (2 ^ 254) 0) (fin false 1 (pos 254)) ≡ inf false
-unfolding exponent_range_of lt
-large_ranged = refl
-
--- and so does the multiplication
-large_product : mul binary32 (fin false 1 (pos 127)) (fin false 1 (pos 127)) ≡ inf false
-unfolding mul
-large_product = refl
-
--- 2 ^ -100 times 2 ^ -100: the rounding keeps 2 ^ -200
-small_rounded : rounding binary32 (exactly 1 200) ≡ fin false 1 (negsuc 199)
-unfolding rounding to_digits nearest_root_of whole_root_of root_by size odd
-small_rounded = refl
-
--- the range makes it zero
-small_ranged : exponent_range_of binary32 (exactly 1 200) (fin false 1 (negsuc 199)) ≡ fin false 0 (pos 0)
-unfolding exponent_range_of nearest_root_of whole_root_of root_by size odd
-small_ranged = refl
-
--- and so does the multiplication
-small_product : mul binary32 (fin false 1 (negsuc 99)) (fin false 1 (negsuc 99)) ≡ fin false 0 (pos 0)
-unfolding mul
-small_product = refl
+-- 2 ^ -100 times 2 ^ -100: the rounding keeps 2 ^ -200, the range makes it zero, and so does the multiplication
+small_product :
+    (rounding binary32 (exactly 1 200) ≡ fin false 1 (negsuc 199))
+    × (exponent_range_of binary32 (exactly 1 200) (fin false 1 (negsuc 199)) ≡ fin false 0 (pos 0))
+    × (mul binary32 (fin false 1 (negsuc 99)) (fin false 1 (negsuc 99)) ≡ fin false 0 (pos 0))
+unfolding rounding to_digits exponent_range_of nearest_root_of whole_root_of root_by size odd mul
+small_product = (refl, refl, refl)
 
 -- just above half the smallest value: the rounding gives the half itself
 half_rounded : rounding binary32 (exactly (2 ^ 30 + 1) 180) ≡ fin false 1 (negsuc 149)

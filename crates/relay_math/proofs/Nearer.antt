@@ -1,4 +1,4 @@
--- The root of n, rounded to a whole number and times 2 ^ j, is nearer to √(n * 4 ^ j) than any other finite f32 from zero up, and such an f32 is known by its value. Assumes nothing.
+-- The root of n, rounded to a whole number and times 2 ^ j, is nearer to √(n * 4 ^ j) than any other finite f32 from zero up, and such an f32 is known by its value.
 use mathlib.Core.Path.{◌≡◌, sym, ap, ◌∙◌, subst}
 use mathlib.Core.Bool.{true, false, ◌&&◌, true≢false}
 use Prim.Native.Nat.{ℕ, zero, suc, ◌+◌, ◌-◌, ◌*◌, ◌/◌, ◌%◌, ◌^◌, ◌≤◌, ◌<◌}
@@ -14,7 +14,7 @@ use lib.Ieee.Exact.{HasValue}
 use lib.Ieee.Fits.{and_l, and_r, down_pos}
 use Rattle.relay_math.specs.Root.{whole_root_of, nearest_root_of}
 use Rattle.relay_math.proofs.Rounding.{root_24, nearest_down, nearest_up, bits_of}
-use Rattle.relay_math.proofs.Squares.{sq_lt, odd_sq}
+use Rattle.relay_math.proofs.Squares.{next, sq_lt, odd_sq}
 use Rattle.relay_math.proofs.WholeRoot.{IsRoot, whole_root_is}
 
 -- b is a, or nearer to √n than a is: the point midway lies on a's side of √n, and not on √n
@@ -91,9 +91,6 @@ grid (fin false (suc m) e) a j t v h =
     subst (λ (x : ℕ). x / 2 ^ j * 2 ^ j ≡ x) k.1 (whole_units (suc m) k.0 j (long (suc m) k.0 j d.0 (le_trans h (le_of_eq (sym k.1)))))
 
 -- ---- nearer than any other multiple of p
-next : (a b : ℕ) → a < b → a + 1 ≤ b
-next a b h = omega arith
-
 -- squares against 4 * n, times p * p
 under_square : (n p x y : ℕ) → 0 < p → x ≤ y * p → y * y < 4 * n → x * x < 4 * (n * (p * p))
 under_square n p x y pp h k =

@@ -1,4 +1,4 @@
--- For every n and k the whole number nearest to √n / 2 ^ k is within a half of it. Assumes nothing.
+-- For every n and k the whole number nearest to √n / 2 ^ k is within a half of it.
 use mathlib.Core.Path.{◌≡◌, sym, ap, ◌∙◌, subst}
 use mathlib.Core.Bool.{not}
 use Prim.Native.Nat.{ℕ, zero, suc, ◌+◌, ◌-◌, ◌*◌, ◌/◌, ◌%◌, ◌^◌, ◌≤◌, ◌<◌, compare, Ordering}

@@ -1,4 +1,4 @@
--- The value of a pattern between zero and infinity, and the pattern of an operand above zero. Assumes nothing.
+-- The value of a pattern between zero and infinity, and the pattern of an operand above zero.
 use mathlib.Core.Path.{◌≡◌, refl, sym, ap, ◌∙◌, subst}
 use mathlib.Core.Bool.{Bool, true, false, ◌&&◌, cond}
 use Prim.Native.Nat.{ℕ, zero, suc, ◌+◌, ◌-◌, ◌*◌, ◌/◌, ◌%◌, ◌^◌, ◌≤◌, ◌<◌}

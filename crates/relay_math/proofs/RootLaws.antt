@@ -1,11 +1,11 @@
--- Laws of the root: the special operands; of a finite f32 above zero, that the exponent's range changes nothing and that the root is the f32 nearest to the exact one. Assumes nothing.
+-- The roots of the special operands, and of a finite f32 above zero that the exponent's range changes nothing and that its root is the f32 nearest to the exact one.
 use mathlib.Core.Path.{◌≡◌, refl, sym, ap, ◌∙◌, subst}
 use mathlib.Core.Bool.{Bool, true, false, ◌||◌, beq, cond}
-use Prim.Native.Nat.{ℕ, zero, suc, ◌+◌, ◌-◌, ◌*◌, ◌/◌, ◌%◌, ◌^◌, ◌≤◌, ◌<◌, zero-le}
-use native.Mathlib.Nat.{le_trans, le_of_lt, lt_of_lt_of_le, lt_of_not-le, zero-lt-suc, zero-mul, zero-add, sub-add_cancel, mul-pos, mul_assoc, mul-le-mul, mul-le-mul_left, mul-le-mul_right, mul-lt-mul_of_pos_right, eq_of_mul-eq-mul_right}
+use Prim.Native.Nat.{ℕ, zero, suc, ◌+◌, ◌-◌, ◌*◌, ◌/◌, ◌%◌, ◌^◌, ◌≤◌, ◌<◌}
+use native.Mathlib.Nat.{le_trans, le_of_lt, lt_of_lt_of_le, lt_of_not-le, zero-lt-suc, zero-mul, zero-add, sub-add_cancel, add-sub_cancel_left, mul-pos, mul_assoc, mul-le-mul, mul-le-mul_left, mul-le-mul_right, mul-lt-mul_of_pos_right, eq_of_mul-eq-mul_right}
 use native.Mathlib.Decide.{dec_le}
 use native.Mathlib.Omega.{arith}
-use lib.IntN.{ℤ, pos, negsuc}
+use lib.IntN.{pos, negsuc}
 use lib.Dec.{T, ltb, eqb, eqb→eq, lt→ltb, lit<, lit≤}
 use lib.Pow.{pow-add, pow_pos, pow_mono}
 use lib.Count.{count_leading_zeros}
@@ -15,14 +15,14 @@ use lib.Ieee.Exact.{HasValue, odd_sign}
 use lib.Ieee.Fits.{and_l, up_pos, down_pos, odd-fits}
 use lib.Ieee.Order.{le_of_values}
 use lib.Ieee.Positive.{positive}
-use lib.Ieee.Scale.{finite}
+use Rattle.relay_math.specs.Small.{f32_zero}
 use Rattle.relay_math.specs.Root.{Exact, whole_root_of, nearest_root_of, special_operands_of, unlimited_precision_of, rounding, exponent_range_of, root_of, root}
 use Rattle.std.proofs.Common.{None}
 use Rattle.relay_math.proofs.Nearer.{Nearer, nearer_one, nearer_than, same_value}
 use Rattle.relay_math.proofs.Patterns.{Even, evened, zeros, value_shrink, value_normal, value_subnormal, above_bits}
 use Rattle.relay_math.proofs.Rounding.{exact_at, nearest_24, size_24, rounding_at, range_inside, below_power}
 use Rattle.relay_math.proofs.Scale.{four, four_pos, nearest_scale, size_root, odd_same, exact_same, same_rounding, same_range}
-use Rattle.relay_math.proofs.Special.{Zero, negative, root_special, root_above}
+use Rattle.relay_math.proofs.Special.{negative, root_special, root_above}
 pub use Rattle.relay_math.proofs.Nearest.{Within, root_nearest}
 pub use Rattle.relay_math.proofs.Scale.{exact_value, digits_kept}
 pub use Rattle.relay_math.proofs.WholeRoot.{whole_root_is, root_unique}
@@ -39,7 +39,7 @@ unfolding root_of special_operands_of
 root_of_infinity = refl
 
 -- and a zero, with its sign
-pub root_of_zero : (x : Float) → T (eq x Zero) → root x ≡ x
+pub root_of_zero : (x : Float) → T (eq x f32_zero) → root x ≡ x
 unfolding root_of special_operands_of eq of_bits
 root_of_zero nan h = absurd h
 root_of_zero (inf s) h = absurd h
@@ -50,17 +50,18 @@ root_of_zero (fin s (suc m) e) h =
     absurd (omega (arith, zero-mul (down e)))
 
 -- what is below zero has no root
-pub root_of_negative : (x : Float) → T (lt x Zero) → root x ≡ nan
-root_of_negative x h = sym (root_special x nan (sym (negative x (is_true (lt x Zero) h))))
+pub root_of_negative : (x : Float) → T (lt x f32_zero) → root x ≡ nan
+unfolding of_bits
+root_of_negative x h = sym (root_special x nan (sym (negative x (is_true (lt x f32_zero) h))))
 
 -- a finite number above zero has no rule of its own
-above : (x : Float) → T (positive x) → special_operands_of x ≡ None
+not_special : (x : Float) → T (positive x) → special_operands_of x ≡ None
 unfolding special_operands_of
-above nan p = absurd p
-above (inf s) p = absurd p
-above (fin true m e) p = absurd p
-above (fin false zero e) p = absurd p
-above (fin false (suc m) e) p = refl
+not_special nan p = absurd p
+not_special (inf s) p = absurd p
+not_special (fin true m e) p = absurd p
+not_special (fin false zero e) p = absurd p
+not_special (fin false (suc m) e) p = refl
 
 -- ---- x as n * 4 ^ e / 4 ^ 173, where the root of n has 24 digits
 record Form (x : Float) : Type 0 where
@@ -89,7 +90,7 @@ bits_form b p h = go (dec_le 8388608 b)
     go (no f) = small (lt_of_not-le f)
 
 form : (x : Float) → T (fits binary32 x) → T (positive x) → Form x
-form x h p = let b = above_bits x h (above x p) in subst Form (of_bits-to_bits binary32 x h) (bits_form (to_bits binary32 x) b.0 b.1)
+form x h p = let b = above_bits x h (not_special x p) in subst Form (of_bits-to_bits binary32 x h) (bits_form (to_bits binary32 x) b.0 b.1)
 
 -- one value for a denominator
 one_value : (x : Float) (a b c : ℕ) → HasValue x false a c → HasValue x false b c → a ≡ b
@@ -144,7 +145,7 @@ module _ (x : Float) (h : T (fits binary32 x)) (p : T (positive x)) where
 
   -- so the root is the rounded exact root
   pub root_rounded : root x ≡ rounding binary32 (unlimited_precision_of x)
-  root_rounded = sym (root_above x (above x p)) ∙ range_changes_nothing
+  root_rounded = sym (root_above x (not_special x p)) ∙ range_changes_nothing
 
   -- ---- in smallest values
   root_odd : root x ≡ odd 25 false r j 149
@@ -184,13 +185,10 @@ module _ (x : Float) (h : T (fits binary32 x)) (p : T (positive x)) where
   unfolding units
   root_in_units n v =
       let dropped : size (whole_root_of n) - 24 ≡ j =
-      ap (λ (y : ℕ). size (whole_root_of y) - 24) (units_are n v) ∙ ap (λ (y : ℕ). y - 24) (size_root own.n j (lt_of_lt_of_le (lit< tt) own.low) ∙ ap (λ (y : ℕ). y + j) (size_24 own.n own.low own.high)) ∙ less j in
+      ap (λ (y : ℕ). size (whole_root_of y) - 24) (units_are n v) ∙ ap (λ (y : ℕ). y - 24) (size_root own.n j (lt_of_lt_of_le (lit< tt) own.low) ∙ ap (λ (y : ℕ). y + j) (size_24 own.n own.low own.high)) ∙ add-sub_cancel_left 24 j in
       let kept : nearest_root_of n j ≡ r = ap (λ (y : ℕ). nearest_root_of y j) (units_are n v) ∙ ap (nearest_root_of (own.n * 4 ^ j)) (sym (zero-add j)) ∙ nearest_scale own.n 0 j in
       root_odd
       ∙ sym (ap (λ (k : ℕ). units binary32 false (nearest_root_of n k) k) dropped ∙ ap (λ (q : ℕ). units binary32 false q j) kept ∙ ap (λ (b : Bool). cond b (odd 25 false r j 149) (inf false)) (is_true (ltb (r * 2 ^ j) (2 ^ 277)) (lt→ltb (r * 2 ^ j) (2 ^ 277) under)))
-    where
-      less : (k : ℕ) → 24 + k - 24 ≡ k
-      less k = omega arith
 
   -- ---- the nearest f32
   -- No finite f32 from zero up is nearer to the exact root, √n smallest values, than the root, b of them, and none but the root is as near. What is below zero is further off than zero.
@@ -206,37 +204,3 @@ module _ (x : Float) (h : T (fits binary32 x)) (p : T (positive x)) where
       let a = r * 2 ^ j in
       let one : b ≡ a = nearer_one n b a (root_nearest_f32 n a v in_units y b t w) (all (root x) a root_fits in_units) in
       same_value y (root x) b t root_fits w (subst (λ (c : ℕ). HasValue (root x) false c (2 ^ 149)) (sym one) in_units)
-
--- ---- a finite number from zero up has a finite root from zero up
-value_finite : (x : Float) (a c : ℕ) → HasValue x false a c → T (finite x)
-value_finite nan a c h = absurd h
-value_finite (inf s) a c h = absurd h
-value_finite (fin s m e) a c h = tt
-
-value_from_zero : (x : Float) (a : ℕ) → HasValue x false a (2 ^ 149) → T (le Zero x)
-unfolding of_bits
-value_from_zero x a h = le_of_values Zero x 0 1 a (2 ^ 149) (lit< tt) (pow_pos 149) (refl, refl) h zero-le
-
-not_below : (m : ℕ) (e : ℤ) → T (le Zero (fin true (suc m) e)) → ⊥
-unfolding le lt eq of_bits
-not_below m e h =
-    let z : 0 * 1 * down e ≡ suc m * up e * 1 = eqb→eq (0 * 1 * down e) (suc m * up e * 1) (and_l (eqb (0 * 1 * down e) (suc m * up e * 1)) (eqb (0 * 1 * down e) 0) h) in
-    let k : 0 < suc m * up e = mul-pos (zero-lt-suc m) (up_pos e) in
-    omega (arith, zero-mul (down e))
-
-zeros_level : (s : Bool) (e : ℤ) → T (le Zero (fin s 0 e))
-unfolding le lt eq of_bits
-zeros_level true e = rw (zero-mul (up e), zero-mul (down e)) tt
-zeros_level false e = rw (zero-mul (up e), zero-mul (down e)) tt
-
-pub root_finite : (x : Float) → T (fits binary32 x) → T (finite x) → T (le Zero x) → T (finite (root x)) × T (le Zero (root x))
-unfolding root_of special_operands_of of_bits
-root_finite nan h f l = absurd f
-root_finite (inf s) h f l = absurd f
-root_finite (fin s zero e) h f l = (tt, zeros_level _ _)
-root_finite (fin true (suc m) e) h f l = absurd (not_below m e l)
-root_finite (fin false (suc m) e) h f l =
-    let x = fin false (suc m) e in
-    let v = root_digits x h (lt→ltb 0 (suc m) (zero-lt-suc m)) in
-    let a = v.0 * 2 ^ v.1 in
-    (value_finite (root x) a (2 ^ 149) v.4, value_from_zero (root x) a v.4)

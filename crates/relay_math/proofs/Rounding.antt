@@ -1,8 +1,8 @@
--- What the last two steps give for the exact roots that the code has, with 24 digits before the point, and the patterns of that. Assumes nothing.
+-- What the last two steps give for the exact roots that the code has, with 24 digits before the point, and the patterns of that.
 use mathlib.Core.Path.{◌≡◌, refl, sym, ap, ◌∙◌, subst}
 use mathlib.Core.Bool.{Bool, true, false, cond}
 use Prim.Native.Nat.{ℕ, suc, ◌+◌, ◌-◌, ◌*◌, ◌/◌, ◌^◌, ◌≤◌, ◌<◌, compare, Ordering}
-use native.Mathlib.Nat.{le_trans, le_of_eq, le_of_lt, lt_of_le_of_lt, lt_of_lt_of_le, lt_of_not-le, not-le_of_lt, le-add_right, zero-add, mul-one, one-mul, mul_assoc, mul_right_comm, mul-le-mul, mul-le-mul_left, mul-le-mul_right, mul-lt-mul_of_pos_right, mul-div_cancel, div-one, div-lt_iff_lt-mul, pow-le-pow_right}
+use native.Mathlib.Nat.{le_trans, le_of_eq, le_of_lt, lt_of_le_of_lt, lt_of_lt_of_le, lt_of_not-le, not-le_of_lt, le-add_right, zero-add, add-sub_cancel_left, mul-one, one-mul, mul_assoc, mul_right_comm, mul-le-mul, mul-le-mul_left, mul-le-mul_right, mul-lt-mul_of_pos_right, mul-div_cancel, div-one, div-lt_iff_lt-mul, pow-le-pow_right}
 use native.Mathlib.Numerals.{add-one}
 use native.Mathlib.Decide.{dec_le}
 use native.Mathlib.Omega.{arith}
@@ -96,14 +96,11 @@ unfolding rounding to_digits
 rounding_at n e a b =
     let i = e + 24 in
     let more : n * 4 ^ e * 4 ^ 24 ≡ n * 4 ^ i = mul_assoc n (4 ^ e) (4 ^ 24) ∙ ap (λ (x : ℕ). n * x) (sym (pow-add 4 e 24)) in
-    let digits : size (whole_root_of (n * 4 ^ i)) - 24 ≡ i = ap (λ (x : ℕ). x - 24) (size_root n i (lt_of_lt_of_le (lit< tt) a) ∙ ap (λ (x : ℕ). x + i) (size_24 n a b)) ∙ less i in
+    let digits : size (whole_root_of (n * 4 ^ i)) - 24 ≡ i = ap (λ (x : ℕ). x - 24) (size_root n i (lt_of_lt_of_le (lit< tt) a) ∙ ap (λ (x : ℕ). x + i) (size_24 n a b)) ∙ add-sub_cancel_left 24 i in
     ap (λ (m : ℕ). odd 25 false (nearest_root_of m (size (whole_root_of m) - 24)) (size (whole_root_of m) - 24) 197) more
     ∙ ap (λ (k : ℕ). odd 25 false (nearest_root_of (n * 4 ^ i) k) k 197) digits
     ∙ ap (λ (q : ℕ). odd 25 false q i 197) (ap (nearest_root_of (n * 4 ^ i)) (sym (zero-add i)) ∙ nearest_scale n 0 i)
     ∙ odd_same 25 false (nearest_root_of n 0) i 197 e 173 (omega arith)
-  where
-    less : (x : ℕ) → 24 + x - 24 ≡ x
-    less x = omega arith
 
 -- ---- the exponent's range
 -- a number from zero up against a power of two
@@ -194,7 +191,7 @@ pub packed_is : (r j : ℕ) → 2 ^ 23 ≤ r → r < 2 ^ 24 → j ≤ 253 → of
 packed_is r j l u b =
     let x = odd 25 false r j 149 in
     let a = r * 2 ^ j in
-    let s : size a - 24 ≡ j = ap (λ (y : ℕ). y - 24) (size_between a r j (lt_of_lt_of_le (lit< tt) l) (le_of_eq refl) (mul-lt-mul_of_pos_right (lt_add_one r) (pow_pos j)) ∙ ap (λ (y : ℕ). y + j) (size_exact r 23 l u)) ∙ less j in
+    let s : size a - 24 ≡ j = ap (λ (y : ℕ). y - 24) (size_between a r j (lt_of_lt_of_le (lit< tt) l) (le_of_eq refl) (mul-lt-mul_of_pos_right (lt_add_one r) (pow_pos j)) ∙ ap (λ (y : ℕ). y + j) (size_exact r 23 l u)) ∙ add-sub_cancel_left 24 j in
     let w : to_bits binary32 x ≡ j * 8388608 + r =
     bits_of x a (odd_sign 25 false r j 149) ∙ ap (λ (k : ℕ). k * 8388608 + a / 2 ^ k) s ∙ ap (λ (y : ℕ). j * 8388608 + y) (mul-div_cancel r (pow_pos j)) in
     let under : a < 2 ^ 277 = lt_of_lt_of_le (mul-lt-mul_of_pos_right u (pow_pos j)) (mul-le-mul_left (2 ^ 24) (pow_mono b)) in
@@ -202,6 +199,3 @@ packed_is r j l u b =
   where
     lt_add_one : (y : ℕ) → y < y + 1
     lt_add_one y = omega arith
-
-    less : (x : ℕ) → 24 + x - 24 ≡ x
-    less x = omega arith

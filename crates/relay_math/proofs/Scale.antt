@@ -1,4 +1,4 @@
--- A number has more than one way to be written as an exact one; the last two steps of the root do not see which. Assumes nothing.
+-- A number has more than one way to be written as an exact one; the last two steps of the root do not see which.
 use mathlib.Core.Path.{◌≡◌, refl, sym, ap, ◌∙◌, subst}
 use mathlib.Core.Bool.{Bool, true, false, not, cond}
 use Prim.Native.Nat.{ℕ, zero, suc, ◌+◌, ◌-◌, ◌*◌, ◌/◌, ◌^◌, ◌≤◌, ◌<◌, compare, Ordering}
@@ -15,7 +15,7 @@ use lib.Ieee.Digits.{size-lt, size-le, size_reaches}
 use Rattle.relay_math.specs.Root.{Exact, behind, overflow_exponent, whole_root_of, nearest_root_of, unlimited_precision_of, to_digits, rounding, exponent_range_of}
 use Rattle.relay_math.specs.RootCode.{SameRoot}
 use Rattle.relay_math.proofs.Nearest.{Cmp, cmp}
-use Rattle.relay_math.proofs.Squares.{sq_lt_back}
+use Rattle.relay_math.proofs.Squares.{next, sq_lt_back}
 use Rattle.relay_math.proofs.WholeRoot.{IsRoot, whole_root_is}
 
 -- ---- powers of four
@@ -99,9 +99,6 @@ size_exact a k l u = le_antisymm (size-le a (suc k) u) (size_gt a k l)
 pub size_between : (a w i : ℕ) → 0 < w → w * 2 ^ i ≤ a → a < (w + 1) * 2 ^ i → size a ≡ size w + i
 size_between a w i p l u = go (size w) (size-lt w) (size_reaches w)
   where
-    next : (x y : ℕ) → x < y → x + 1 ≤ y
-    next x y h = omega arith
-
     more : (s : ℕ) → suc s + i ≡ suc (s + i)
     more s = omega arith
 

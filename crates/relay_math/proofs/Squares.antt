@@ -1,9 +1,12 @@
--- Squares of whole numbers, and what a step of Newton's method towards a root gives. Assumes nothing.
+-- Squares of whole numbers, and what a step of Newton's method towards a root gives.
 use mathlib.Core.Path.{◌≡◌, subst}
 use Prim.Native.Nat.{ℕ, suc, ◌+◌, ◌*◌, ◌/◌, ◌≤◌, ◌<◌}
 use native.Mathlib.Nat.{le_of_lt, lt_of_not-le, not-le_of_lt, lt-suc_self, le_dest, add-mul, mul-add, mul_assoc, mul_comm, mul-mul-mul_comm, mul-le-mul, mul-le-mul_right, div-lt_iff_lt-mul}
 use native.Mathlib.Decide.{dec_le}
 use native.Mathlib.Omega.{arith}
+
+pub next : (a b : ℕ) → a < b → a + 1 ≤ b
+next a b h = omega arith
 
 pub sq_suc : (a : ℕ) → (a + 1) * (a + 1) ≡ a * a + 2 * a + 1
 sq_suc a = omega (arith, add-mul a 1 (a + 1), mul-add a a 1)
@@ -13,9 +16,6 @@ odd_sq r = omega (arith, sq_suc (2 * r), mul-mul-mul_comm 2 r 2 r)
 
 pub sq_lt : (a b : ℕ) → a < b → a * a < b * b
 sq_lt a b h = let k : (a + 1) * (a + 1) ≤ b * b = mul-le-mul (next a b h) (next a b h) in omega (arith, sq_suc a)
-  where
-    next : (a b : ℕ) → a < b → a + 1 ≤ b
-    next a b h = omega arith
 
 pub sq_lt_back : (a b : ℕ) → a * a < b * b → a < b
 sq_lt_back a b h = lt_of_not-le (λ (g : b ≤ a). not-le_of_lt h (mul-le-mul g g))

@@ -1,4 +1,4 @@
--- `whole_root_of n` is the q with q * q ≤ n < (q + 1) * (q + 1), and the only one. Assumes nothing.
+-- `whole_root_of n` is the q with q * q ≤ n < (q + 1) * (q + 1), and the only one.
 use mathlib.Core.Path.{◌≡◌}
 use mathlib.Core.Bool.{Bool, true, false, not, cond}
 use Prim.Native.Nat.{ℕ, zero, suc, ◌+◌, ◌*◌, ◌/◌, ◌^◌, ◌≤◌, ◌<◌}

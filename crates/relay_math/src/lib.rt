@@ -12,6 +12,7 @@ mod root;
 pub use root::sqrtf;
 
 // The f32 of a pattern. Every NaN pattern is read as NaN, which std's `from_bits` does not take.
+#[tactic(auto, using(crate::proofs::Small::nan_pattern, std::proofs::lemmas::Float::not_nan_f32_bits))]
 pub fn from_bits(b: u32) -> f32
     ensures { result ≡ of_bits binary32 b }
 {
@@ -22,6 +23,7 @@ pub fn from_bits(b: u32) -> f32
 }
 
 // The pattern of an f32. Every NaN is written 7FC00000, which std's `to_bits` does not take.
+#[tactic(auto, using(crate::proofs::Small::nan_written))]
 pub fn to_bits(x: f32) -> u32
     ensures { result ≡ to_bits binary32 x }
 {
@@ -32,6 +34,7 @@ pub fn to_bits(x: f32) -> u32
 }
 
 // Neither infinite nor NaN.
+#[tactic(auto, using(crate::proofs::Small::finite_is))]
 pub fn is_finite(x: f32) -> bool
     ensures { result ≡ finite x }
 {

@@ -87,6 +87,7 @@ impl Digits48 {
 }
 
 // 1. The special operands (6.1, 6.2, 6.3, 7.2): the root of one that has a rule of its own.
+#[tactic(auto, using(crate::proofs::Special::between, crate::proofs::Special::infinite, crate::proofs::Special::negative, crate::proofs::Special::neither))]
 fn special_operands(x: f32) -> Option<f32>
     ensures { result ≡ special_operands_of x }
 {

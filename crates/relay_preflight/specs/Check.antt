@@ -1,5 +1,5 @@
--- The checks and their numbers, and the order in which the gate tries them. Assumes nothing.
-use Rattle.std.specs.Prelude.{cond, ℕ, List, [], ◌∷◌, ltb, get_or, Option, Some, None}
+-- The checks of document 01, "Check table": their numbers, both ways, and the order in which the gate tries them.
+use Rattle.std.specs.Prelude.{ℕ, List, [], ◌∷◌, eqb, find, Option}
 use Rattle.relay_preflight.specs.declared.CheckId.{CheckId}
 use Rattle.relay_preflight.specs.declared.CheckId.TheVariants.{SensorsHealthy, EstimatorConverged, CalibrationPresent, GeofenceLoaded, BatteryOk, FailsafeConfigured, EstimatorInnovation}
 use Rattle.relay_preflight.specs.declared.CheckId.TheVariants.{GnssAgreement, ParamsFromNvm, GeofenceSane, ThresholdsOrdered, SensorsFresh, EscTelemetry, BatteryTakeoffMargin}
@@ -33,40 +33,6 @@ check_number NoFailsafeLatched = 18
 check_number MotorsHealthy = 19
 check_number InsideGeofence = 20
 
--- the checks in the order of their numbers
-abbrev pub checks_by_number : List CheckId
-checks_by_number =
-    SensorsHealthy
-    ∷ EstimatorConverged
-    ∷ CalibrationPresent
-    ∷ GeofenceLoaded
-    ∷ BatteryOk
-    ∷ FailsafeConfigured
-    ∷ EstimatorInnovation
-    ∷ GnssAgreement
-    ∷ ParamsFromNvm
-    ∷ GeofenceSane
-    ∷ ThresholdsOrdered
-    ∷ SensorsFresh
-    ∷ EscTelemetry
-    ∷ BatteryTakeoffMargin
-    ∷ RangefinderPlausible
-    ∷ CalibrationFresh
-    ∷ RcLink
-    ∷ GcsLink
-    ∷ NoFailsafeLatched
-    ∷ MotorsHealthy
-    ∷ InsideGeofence
-    ∷ []
-
--- the check with a number below 21
-unfoldable pub check_at_of : ℕ → CheckId
-check_at_of n = get_or checks_by_number n SensorsHealthy
-
--- the check with a number, none from 21 on
-unfoldable pub check_at : ℕ → Option CheckId
-check_at n = cond (ltb n check_count) (Some (check_at_of n)) None
-
 -- the Rust's `CheckId::ALL`: every check, in gate (priority) order, which is not that of the numbers
 unfoldable pub all_checks : List CheckId
 all_checks =
@@ -92,3 +58,7 @@ all_checks =
     ∷ GcsLink
     ∷ NoFailsafeLatched
     ∷ []
+
+-- `CheckId::try_from`: the check with a number, none above 20
+unfoldable pub check_at : ℕ → Option CheckId
+check_at n = find (λ id. eqb (check_number id) n) all_checks

@@ -1,4 +1,4 @@
--- The check table: two masks, and what is read off them. Assumes nothing.
+-- The check table of document 01, "Check table": two masks, and what is read off them.
 use Rattle.std.specs.Prelude.{Bool, true, cond, not, ◌&&◌, ℕ, ◌-◌, ◌/◌, ◌%◌, ◌^◌, eqb}
 use Rattle.std.specs.Int.Bits.{bit_and, bit_or}
 use Rattle.std.specs.Int.Count.{ones}
@@ -20,8 +20,8 @@ unfoldable pub with_bit_of : ℕ → ℕ → Bool → ℕ
 with_bit_of m n b = cond b (bit_or m (2 ^ n)) (bit_and m (2 ^ 32 - 1 - 2 ^ n))
 
 -- `CheckTable::new`: "the opening gives the required and the passed mask"
-abbrev pub new_of : ℕ → ℕ → CheckTable
-new_of required passed = record { required = required; passed = passed }
+abbrev pub new_table_of : ℕ → ℕ → CheckTable
+new_table_of required passed = record { required = required; passed = passed }
 
 -- `CheckTable::set`: "setting a check changes its passed bit and no other"
 unfoldable pub set_of : CheckTable → CheckId → Bool → CheckTable

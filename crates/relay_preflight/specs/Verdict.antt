@@ -1,4 +1,4 @@
--- The check that blocks arming, if one does. Assumes nothing.
+-- The first blocker of document 01, "Check table", and its number.
 use Rattle.std.specs.Prelude.{ℕ, Option, Some, None, find}
 use Rattle.relay_preflight.specs.Check.{all_checks, check_number}
 use Rattle.relay_preflight.specs.Table.{fails_of}

@@ -3,7 +3,7 @@
 
 ghost use Rattle.std.specs.Prelude.{◌≡◌, ok_or};
 ghost use Rattle.relay_preflight.specs.Check.{check_number, check_at};
-ghost use Rattle.relay_preflight.specs.Table.{bit_of, with_bit_of, new_of, set_of, legacy_passed_of, is_required_of, passed_of};
+ghost use Rattle.relay_preflight.specs.Table.{bit_of, with_bit_of, new_table_of, set_of, legacy_passed_of, is_required_of, passed_of};
 ghost use Rattle.relay_preflight.specs.Table.{fails_of, failing_mask_of, outstanding_of};
 ghost use Rattle.relay_preflight.specs.Verdict.{first_blocker_of, blocker_number};
 
@@ -25,6 +25,7 @@ pub enum CheckId {
     GeofenceSane,
     ThresholdsOrdered,
     SensorsFresh,
+    // The motors' speeds arrive.
     EscTelemetry,
     BatteryTakeoffMargin,
     RangefinderPlausible,
@@ -32,7 +33,9 @@ pub enum CheckId {
     RcLink,
     GcsLink,
     NoFailsafeLatched,
+    // No motor is known to be at fault: one that stands still can go on reporting, and passes EscTelemetry.
     MotorsHealthy,
+    // Inside the geofence now: GeofenceLoaded and GeofenceSane judge the configuration alone.
     InsideGeofence,
 }
 
@@ -120,7 +123,7 @@ impl fmt::Display for UnknownCheck {
 impl Error for UnknownCheck {}
 
 // The check with this number.
-#[tactic(auto, unfolding(crate::specs::Check::check_at, crate::specs::Check::check_at_of))]
+#[tactic(auto, unfolding(crate::specs::Check::check_at, crate::specs::Check::all_checks))]
 impl TryFrom<u32> for CheckId {
     type Error = UnknownCheck;
 
@@ -174,7 +177,7 @@ fn with_bit(mask: u32, id: CheckId, on: bool) -> u32
     mask & !one
 }
 
-// The check table: bit n of each mask is the check of number n.
+// The check table: bit n of each mask is the check of number n. A check that a vehicle cannot feed belongs in no required mask, since it would block.
 #[derive(Clone, Copy, Debug, PartialEq, Eq, Hash)]
 pub struct CheckTable {
     pub required: u32,
@@ -187,7 +190,7 @@ impl CheckTable {
 
     // The table of the two masks that an opening gives.
     pub fn new(required: u32, passed: u32) -> CheckTable
-        ensures { result ≡ new_of required passed }
+        ensures { result ≡ new_table_of required passed }
     {
         CheckTable { required, passed }
     }
@@ -255,7 +258,7 @@ impl CheckTable {
     }
 }
 
-// The first required check that has not passed, in the order of CheckId::ALL: it blocks arming. Where none is outstanding there is no check to look for.
+// The first required check that has not passed, in the order of CheckId::ALL: it blocks arming, and tells the pilot why. Where none is outstanding there is no check to look for.
 #[tactic(auto, using(crate::proofs::Laws::mask_allows), unfolding(crate::specs::Verdict::first_blocker_of, crate::specs::Check::all_checks))]
 pub fn arm_check_table(t: CheckTable) -> Option<CheckId>
     ensures { result ≡ first_blocker_of t }

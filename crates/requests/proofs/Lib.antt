@@ -1,5 +1,5 @@
 pub mod Asking
 pub mod ByKind
 pub mod Buffer
-pub mod Lent
+pub mod Fits
 pub mod ToldLines

@@ -1,4 +1,4 @@
--- Lines of kinds 7 and 8, which ask for the totals or for the state: their whole buffers. Assumes nothing.
+-- In the buffer after a line of kind 7 or 8 what it tells of the state stands behind the ten fields, and nothing does where it is refused.
 use Prim.Native.Nat.{ℕ, ◌+◌, ◌*◌, ◌≤◌, ◌<◌}
 use native.Mathlib.Omega.{arith}
 use mathlib.Core.List.{List, ◌++◌, append-nil}
@@ -7,10 +7,11 @@ use lib.ListN.{length, drop, length-append}
 use Rattle.std.specs.Prelude.{Option, Some, None, Ok, Err}
 use Rattle.falcon_totals.specs.Totals.{totals_numbers}
 use Rattle.falcon_core.specs.declared.supervisor.Supervisor.{Supervisor}
-use Rattle.falcon_core.specs.declared.calls.Answered.{Answered}
-use Rattle.falcon_core.specs.declared.calls.Output.{Output}
-use Rattle.falcon_core.specs.declared.calls.Output.TheVariants.{Totals, Record}
-use Rattle.falcon_core.specs.Calls.{Planning, plans, totals, saves, refusal_of, answer_of, refused_of, accepted_of, step_of, answer_fields, numbers_of}
+use Rattle.falcon_core.specs.declared.supervisor.Answered.{Answered}
+use Rattle.falcon_core.specs.declared.answer.Output.{Output}
+use Rattle.falcon_core.specs.declared.answer.Output.TheVariants.{Totals, Record}
+use Rattle.falcon_core.specs.Calls.{Planning, plans, totals, saves, refusal_of, refused_of, accepted_of, step_of}
+use Rattle.falcon_core.specs.Answer.{answer_of, answer_fields, numbers_of}
 use Rattle.falcon_core.specs.declared.refusal.Refusal.{Refusal}
 use Rattle.falcon_core.specs.declared.refusal.Refusal.TheVariants.{ShortBuffer}
 use Rattle.falcon_core.proofs.Numbers.{numbers_count}
@@ -21,10 +22,10 @@ use Rattle.falcon_record.proofs.Saving.{columns_count}
 use Rattle.columns.specs.Field.{field_width, kind_of}
 use Rattle.columns.specs.Line.{line_of, over}
 use Rattle.columns.proofs.Writing.{length_line, line_append}
-use Rattle.requests.specs.Kinds.{Asked, answered_by, totals_kind, saves_kind}
-use Rattle.requests.specs.Parse.{asked_line}
+use Rattle.requests.specs.Kinds.{Asked, asked_step, totals_kind, saves_kind}
+use Rattle.requests.specs.Parse.{line_asks}
 use Rattle.requests.specs.ByLine.{totals_answer, record_need, need_fields_of, need_of, line_step, extra_of, reply_numbers, reply_of, buffer_after}
-use Rattle.requests.proofs.Buffer.{short_step, short_buffer_lem, reply_extra, full_buffer}
+use Rattle.requests.proofs.Buffer.{short_step, short_buffer, reply_extra, full_buffer}
 
 -- ---- refused
 
@@ -39,14 +40,14 @@ module _ (s : Supervisor) (line out : List ℕ) where
   unfolding need_of
   short_kind k e h =
       let short : length out < need_of line = omega (arith, ap (λ (f : Option ℕ). field_width * need_fields_of f) e) in
-      (short_step s line out short, sym (short_buffer_lem s line out short))
+      (short_step s line out short, sym (short_buffer s line out short))
 
-  -- "a buffer under 209 bytes for kind 7"
+  -- U1: "a buffer under 209 bytes for kind 7"
   pub totals_short : kind_of line ≡ Some totals_kind → length out < field_width * totals_answer → (line_step s line out ≡ refused_of s ShortBuffer) × (buffer_after s line out ≡ out)
   unfolding need_fields_of
   totals_short e h = short_kind totals_kind e h
 
-  -- "a buffer under 1,870 bytes for kind 8"
+  -- U2: "a buffer under 1,870 bytes for kind 8"
   pub record_short : kind_of line ≡ Some saves_kind → length out < field_width * record_need → (line_step s line out ≡ refused_of s ShortBuffer) × (buffer_after s line out ≡ out)
   unfolding need_fields_of
   record_short e h = short_kind saves_kind e h
@@ -65,19 +66,19 @@ module _ (s : Supervisor) (p : Planning) (o : Output) (t : Telling p o) (e : ref
   -- what it tells, as a line, behind its ten fields; behind that the buffer is as it was
   pub told_over :
       (line out : List ℕ) →
-      asked_line line ≡ Ok (plans p) →
+      line_asks line ≡ Ok (plans p) →
       need_of line ≤ length out →
       buffer_after s line out ≡ over (line_of (numbers_of (step_of s (plans p)).answer) ++ line_of (extra_of s (Ok o))) out
   unfolding reply_of
   told_over line out q h =
       let ten : List ℕ = numbers_of (step_of s (plans p)).answer in
-      let is : reply_of (answered_by s (asked_line line)) ≡ line_of ten ++ line_of (extra_of s (Ok o)) = ap (λ (k : Asked). reply_of (answered_by s k)) q ∙ ap line_of told_numbers ∙ line_append ten (extra_of s (Ok o)) in
+      let is : reply_of (asked_step s (line_asks line)) ≡ line_of ten ++ line_of (extra_of s (Ok o)) = ap (λ (k : Asked). reply_of (asked_step s k)) q ∙ ap line_of told_numbers ∙ line_append ten (extra_of s (Ok o)) in
       sym (full_buffer s line out h) ∙ ap (λ (l : List ℕ). over l out) is
 
   told_buffer :
       (n : ℕ) (line out : List ℕ) →
       length (extra_of s (Ok o)) ≡ n →
-      asked_line line ≡ Ok (plans p) →
+      line_asks line ≡ Ok (plans p) →
       need_of line ≤ length out →
       buffer_after s line out ≡ (line_of (numbers_of (step_of s (plans p)).answer) ++ line_of (extra_of s (Ok o))) ++ drop (field_width * (answer_fields + n)) out
   told_buffer n line out wide q h =
@@ -86,21 +87,21 @@ module _ (s : Supervisor) (p : Planning) (o : Output) (t : Telling p o) (e : ref
       let long : length front ≡ field_width * (answer_fields + n) = length-append (line_of (numbers_of a)) (line_of (extra_of s (Ok o))) ∙ omega (arith, length_line (numbers_of a), length_line (extra_of s (Ok o)), numbers_count a) in
       told_over line out q h ∙ ap (λ (m : ℕ). front ++ drop m out) long
 
--- "the ordinary ten fields and then the nine totals"; the bytes behind the 209 are as they were
+-- U1: "the ordinary ten fields and then the nine totals"; the bytes behind the 209 are as they were
 pub totals_buffer :
     (s : Supervisor) (line out : List ℕ) →
     refusal_of s (plans totals) ≡ None →
-    asked_line line ≡ Ok (plans totals) →
+    line_asks line ≡ Ok (plans totals) →
     need_of line ≤ length out →
     buffer_after s line out ≡ (line_of (numbers_of (step_of s (plans totals)).answer) ++ line_of (totals_numbers s.totals)) ++ drop (field_width * totals_answer) out
 unfolding extra_of totals_numbers
 totals_buffer s line out e q h = told_buffer s totals Totals tells_totals e _ line out refl q h
 
--- "the columns of a line of kind 9, on the same line after its ordinary answer", and so that line as it stands; "Bytes after it are untouched"
+-- U2: "the columns of a line of kind 9, on the same line after its ordinary answer", and so that line as it stands; "Bytes after it are untouched"
 pub record_buffer :
     (s : Supervisor) (line out : List ℕ) →
     refusal_of s (plans saves) ≡ None →
-    asked_line line ≡ Ok (plans saves) →
+    line_asks line ≡ Ok (plans saves) →
     need_of line ≤ length out →
     buffer_after s line out ≡ (line_of (numbers_of (step_of s (plans saves)).answer) ++ line_of (columns_of s)) ++ drop (field_width * (answer_fields + record_fields)) out
 unfolding extra_of

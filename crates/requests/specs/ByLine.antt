@@ -1,22 +1,18 @@
 -- A call by line: the state, the refusal and the whole buffer after it.
 use Rattle.std.specs.Prelude.{ℕ, ◌+◌, ◌*◌, cond, List, [], ◌++◌, eqb, ltb, length, drop, Option, Some, None, Result, Ok, Err}
 use Rattle.falcon_core.specs.declared.supervisor.Supervisor.{Supervisor}
-use Rattle.falcon_core.specs.declared.calls.Answered.{Answered}
-use Rattle.falcon_core.specs.declared.calls.Output.{Output}
-use Rattle.falcon_core.specs.declared.calls.Output.TheVariants.{Nothing, Ticks, Totals, Record}
-use Rattle.falcon_core.specs.Calls.{answer_fields, numbers_of}
+use Rattle.falcon_core.specs.declared.supervisor.Answered.{Answered}
+use Rattle.falcon_core.specs.declared.answer.Output.{Output}
+use Rattle.falcon_core.specs.declared.answer.Output.TheVariants.{Nothing, Ticks, Totals, Record}
+use Rattle.falcon_core.specs.Answer.{answer_fields, numbers_of}
 use Rattle.falcon_core.specs.declared.refusal.Refusal.{Refusal}
 use Rattle.falcon_core.specs.declared.refusal.Refusal.TheVariants.{ShortBuffer}
 use Rattle.columns.specs.Field.{field_width, kind_of}
 use Rattle.columns.specs.Line.{line_of}
 use Rattle.falcon_totals.specs.Totals.{totals_count, totals_numbers}
 use Rattle.falcon_record.specs.Saved.{record_room, columns_of}
-use Rattle.requests.specs.Kinds.{Asked, answered_by, totals_kind, saves_kind}
-use Rattle.requests.specs.Parse.{asked_line}
-
--- "110 bytes"
-abbrev pub answer_width : ℕ
-answer_width = field_width * answer_fields
+use Rattle.requests.specs.Kinds.{Asked, asked_step, totals_kind, saves_kind}
+use Rattle.requests.specs.Parse.{line_asks}
 
 -- U1: "the ordinary ten fields and then the nine totals"
 abbrev pub totals_answer : ℕ
@@ -32,25 +28,21 @@ unfoldable pub need_fields_of : Option ℕ → ℕ
 need_fields_of (Some n) = cond (eqb n totals_kind) totals_answer (cond (eqb n saves_kind) record_need answer_fields)
 need_fields_of None = answer_fields
 
--- the most fields that an answer buffer must have room for
+-- the most fields that an answer buffer must have room for; no line has more
 abbrev pub most_needed : ℕ
 most_needed = record_need
-
--- the places of an array that takes a line's numbers and then its answer's: no line has more fields than the longest answer needs
-abbrev pub number_places : ℕ
-number_places = most_needed
 
 -- the bytes that a line's answer buffer must have
 unfoldable pub need_of : List ℕ → ℕ
 need_of line = field_width * need_fields_of (kind_of line)
 
 -- what a call by line asks, with its answer buffer: 9 comes first
-unfoldable pub asked_with : List ℕ → List ℕ → Asked
-asked_with line out = cond (ltb (length out) (need_of line)) (Err ShortBuffer) (asked_line line)
+unfoldable pub buffered_line_asks : List ℕ → List ℕ → Asked
+buffered_line_asks line out = cond (ltb (length out) (need_of line)) (Err ShortBuffer) (line_asks line)
 
 -- the answer to a call by line
 unfoldable pub line_step : Supervisor → List ℕ → List ℕ → Answered
-line_step s line out = answered_by s (asked_with line out)
+line_step s line out = asked_step s (buffered_line_asks line out)
 
 -- the numbers of an answer behind its ten fields, with the state after it: a refusal has none
 unfoldable pub extra_of : Supervisor → Result Output Refusal → List ℕ

@@ -1,4 +1,4 @@
--- The kinds of lines: what the numbers of a line ask, or the refusal 3, 4 or 5 that fits them whatever the state.
+-- The sheet's kinds of lines: what the numbers of a line ask, or the refusal 3, 4 or 5 that fits them whatever the state.
 use Rattle.std.specs.Prelude.{ℕ, ◌+◌, ◌*◌, ◌≤◌, ◌≡◌, Bool, cond, ◌&&◌, ◌||◌, List, map, eqb, leb, ltb, length, take, drop, Float, Option, Some, None, Result, Ok, Err, IfOk}
 use Rattle.std.specs.Float.{binary32}
 use Rattle.std.specs.Float.Ieee.{of_bits}
@@ -6,23 +6,24 @@ use Rattle.relay_fsm.specs.declared.Event.{Event}
 use Rattle.relay_fsm.specs.Event.{event_at}
 use Rattle.relay_batt.specs.declared.battery.Reading.{Reading}
 use Rattle.relay_batt.specs.declared.battery.Reading.TheVariants.{Nothing, Volts, VoltsAmps}
-use Rattle.falcon_failsafe.specs.declared.flight.Opening.{Opening}
-use Rattle.falcon_guidance.specs.declared.state.Tick.{Tick}
+use Rattle.falcon_state.specs.declared.flight.Opening.{Opening}
+use Rattle.falcon_state.specs.declared.tick.Tick.{Tick}
 use Rattle.falcon_core.specs.declared.supervisor.Supervisor.{Supervisor}
-use Rattle.falcon_core.specs.declared.calls.Answered.{Answered}
+use Rattle.falcon_core.specs.declared.supervisor.Answered.{Answered}
 use Rattle.falcon_core.specs.declared.refusal.Refusal.{Refusal}
 use Rattle.falcon_core.specs.declared.refusal.Refusal.TheVariants.{UnknownKind, WrongCount, OutOfRange}
 use Rattle.requests.specs.declared.kinds.Kind.{Kind}
 use Rattle.requests.specs.declared.kinds.Kind.TheVariants.{Opening as OpeningKind, Tick as TickKind, Report as ReportKind, Command as CommandKind, Points as PointsKind, Zones as ZonesKind, Totals as TotalsKind, Saves as SavesKind}
-use Rattle.requests.specs.declared.kinds.Call.{Call}
-use Rattle.requests.specs.declared.kinds.Call.TheVariants.{Flight, Other}
+use Rattle.requests.specs.declared.kinds.LineCall.{LineCall}
+use Rattle.requests.specs.declared.kinds.LineCall.TheVariants.{Flight, Other}
 use Rattle.requests.specs.declared.kinds.FlightCall.{FlightCall}
 use Rattle.requests.specs.declared.kinds.FlightCall.TheVariants.{Ticks, Reports, Commands}
 use Rattle.requests.specs.declared.kinds.OtherCall.{OtherCall}
 use Rattle.requests.specs.declared.kinds.OtherCall.TheVariants.{Opens, Points, Zones, Totals, Saves}
-use Rattle.falcon_guidance.specs.State.{point_numbers_of, zone_numbers_of}
+use Rattle.falcon_state.specs.Point.{point_numbers_of}
+use Rattle.falcon_state.specs.Zone.{zone_numbers_of}
 use Rattle.falcon_core.specs.Calls.{Request, opens, ticks, reports, commands, plans, points, zones, totals, saves, refused_of, step_of, Planning}
-use Rattle.columns.specs.Line.{number_at, float_at, flag_at_of}
+use Rattle.relay_math.specs.Small.{number_at, float_at, flag_at}
 use Rattle.falcon_record.specs.From.{point_from_of}
 
 -- what a line asks, or the refusal that fits it whatever the state
@@ -30,9 +31,9 @@ abbrev pub Asked : Type 0
 Asked = Result Request Refusal
 
 -- the answer to what a line asks
-abbrev pub answered_by : Supervisor → Asked → Answered
-answered_by s (Err e) = refused_of s e
-answered_by s (Ok r) = step_of s r
+abbrev pub asked_step : Supervisor → Asked → Answered
+asked_step s (Err e) = refused_of s e
+asked_step s (Ok r) = step_of s r
 
 -- "flag above 1"
 abbrev pub is_flag_of : List ℕ → ℕ → Bool
@@ -43,9 +44,6 @@ abbrev pub fielded : List ℕ → ℕ → Bool → Asked → Asked
 fielded ns count ranges asked = cond (eqb (length ns) count) (cond ranges asked (Err OutOfRange)) (Err WrongCount)
 
 -- "1 opening: home (three), fence, cruise, L, required, passed, calibration flag."
-abbrev pub opening_fields : ℕ
-opening_fields = 10
-
 unfoldable pub opening_from_of : List ℕ → Opening
 opening_from_of ns =
     record {
@@ -55,16 +53,11 @@ opening_from_of ns =
       low_batt_v = float_at ns 6;
       required = number_at ns 7;
       passed = number_at ns 8;
-      calibration_configured = flag_at_of ns 9;
+      calibration_configured = flag_at ns 9;
     }
 
 unfoldable pub opening_line_of : List ℕ → Asked
-opening_line_of ns = fielded ns opening_fields (is_flag_of ns 9) (Ok (opens (opening_from_of ns)))
-
--- "2 tick: dt, p (three), v (three), tilt, uncertainty, motor; flags nav compromised, gnss diverged, failed, rpm;
--- battery 0 none, 1 volts, 2 volts with amps; volts, amps (0 where absent)."
-abbrev pub tick_fields : ℕ
-tick_fields = 18
+opening_line_of ns = fielded ns 10 (is_flag_of ns 9) (Ok (opens (opening_from_of ns)))
 
 -- "battery 0 none, 1 volts, 2 volts with amps"
 unfoldable pub reading_from_of : List ℕ → Reading
@@ -78,6 +71,8 @@ battery_ok_of ns =
     && (ltb 0 (number_at ns 15) || eqb (number_at ns 16) 0)
     && (ltb 1 (number_at ns 15) || eqb (number_at ns 17) 0)
 
+-- "2 tick: dt, p (three), v (three), tilt, uncertainty, motor; flags nav compromised, gnss diverged, failed, rpm;
+-- battery 0 none, 1 volts, 2 volts with amps; volts, amps (0 where absent)."
 unfoldable pub tick_from_of : List ℕ → Tick
 tick_from_of ns =
     record {
@@ -87,10 +82,10 @@ tick_from_of ns =
       tilt = float_at ns 8;
       tilt_uncertainty = float_at ns 9;
       max_motor = float_at ns 10;
-      nav_compromised = flag_at_of ns 11;
-      gnss_diverged = flag_at_of ns 12;
-      failed_motor = flag_at_of ns 13;
-      motor_rpm = flag_at_of ns 14;
+      nav_compromised = flag_at ns 11;
+      gnss_diverged = flag_at ns 12;
+      failed_motor = flag_at ns 13;
+      motor_rpm = flag_at ns 14;
       reading = reading_from_of ns;
     }
 
@@ -98,27 +93,21 @@ unfoldable pub tick_ok_of : List ℕ → Bool
 tick_ok_of ns = is_flag_of ns 11 && is_flag_of ns 12 && is_flag_of ns 13 && is_flag_of ns 14 && battery_ok_of ns
 
 unfoldable pub tick_line_of : List ℕ → Asked
-tick_line_of ns = fielded ns tick_fields (tick_ok_of ns) (Ok (ticks (tick_from_of ns)))
+tick_line_of ns = fielded ns 18 (tick_ok_of ns) (Ok (ticks (tick_from_of ns)))
 
 -- "3 report: failed flag."
-abbrev pub report_fields : ℕ
-report_fields = 2
-
 unfoldable pub report_line_of : List ℕ → Asked
-report_line_of ns = fielded ns report_fields (is_flag_of ns 1) (Ok (reports (flag_at_of ns 1)))
-
--- "4 command: event, level, low throttle."
-abbrev pub command_fields : ℕ
-command_fields = 4
+report_line_of ns = fielded ns 2 (is_flag_of ns 1) (Ok (reports (flag_at ns 1)))
 
 -- "event above 11"
 abbrev pub command_with : Option Event → Bool → Bool → Asked
 command_with (Some ev) level low = Ok (commands ev level low)
 command_with None level low = Err OutOfRange
 
+-- "4 command: event, level, low throttle."
 unfoldable pub command_line_of : List ℕ → Asked
 command_line_of ns =
-    fielded ns command_fields (is_flag_of ns 2 && is_flag_of ns 3) (command_with (event_at (number_at ns 1)) (flag_at_of ns 2) (flag_at_of ns 3))
+    fielded ns 4 (is_flag_of ns 2 && is_flag_of ns 3) (command_with (event_at (number_at ns 1)) (flag_at ns 2) (flag_at ns 3))
 
 -- the kind and n, which stand before the points or zones of a line
 abbrev pub list_head : ℕ
@@ -157,11 +146,8 @@ abbrev pub saves_kind : ℕ
 saves_kind = 8
 
 -- the kind is the only field
-abbrev pub alone_fields : ℕ
-alone_fields = 1
-
 unfoldable pub alone_line_of : List ℕ → Asked → Asked
-alone_line_of ns asked = cond (eqb (length ns) alone_fields) asked (Err WrongCount)
+alone_line_of ns asked = cond (eqb (length ns) 1) asked (Err WrongCount)
 
 -- "The first field is the kind": the kind with a number, none below 1 or above 8
 unfoldable pub kind_at : ℕ → Option Kind
@@ -188,12 +174,12 @@ kind_line_of (Some SavesKind) ns = alone_line_of ns (Ok (plans saves))
 kind_line_of None ns = Err UnknownKind
 
 -- what the numbers of a line ask
-unfoldable pub request_of : List ℕ → Asked
-request_of ns = kind_line_of (kind_at (number_at ns 0)) ns
+unfoldable pub numbers_ask : List ℕ → Asked
+numbers_ask ns = kind_line_of (kind_at (number_at ns 0)) ns
 
 -- the numbers of a line of points or zones, which are the first of these
-abbrev pub list_line : ℕ → List ℕ → List ℕ
-list_line width ns = take (list_fields width ns) ns
+abbrev pub list_numbers : ℕ → List ℕ → List ℕ
+list_numbers width ns = take (list_fields width ns) ns
 
 -- what a tick, a report or a command asks
 abbrev pub flight_asks : FlightCall → Request
@@ -204,20 +190,20 @@ flight_asks (Commands ev level low) = commands ev level low
 -- what any other line asks, its numbers being the first of these
 abbrev pub other_asks : List ℕ → OtherCall → Request
 other_asks ns (Opens o) = opens o
-other_asks ns Points = plans (points (list_floats_of (list_line point_numbers_of ns)))
-other_asks ns Zones = plans (zones (list_floats_of (list_line zone_numbers_of ns)))
+other_asks ns Points = plans (points (list_floats_of (list_numbers point_numbers_of ns)))
+other_asks ns Zones = plans (zones (list_floats_of (list_numbers zone_numbers_of ns)))
 other_asks ns Totals = plans totals
 other_asks ns Saves = plans saves
 
--- what each case of `Call` asks
-abbrev pub call_asks : List ℕ → Call → Request
-call_asks ns (Flight call) = flight_asks call
-call_asks ns (Other call) = other_asks ns call
+-- what each case of `LineCall` asks
+abbrev pub line_call_asks : List ℕ → LineCall → Request
+line_call_asks ns (Flight call) = flight_asks call
+line_call_asks ns (Other call) = other_asks ns call
 
 -- what the answer of a function that reads a line asks
-abbrev pub said_of : List ℕ → Result Call Refusal → Asked
-said_of ns (Ok call) = Ok (call_asks ns call)
-said_of ns (Err e) = Err e
+abbrev pub result_asks : List ℕ → Result LineCall Refusal → Asked
+result_asks ns (Ok call) = Ok (line_call_asks ns call)
+result_asks ns (Err e) = Err e
 
 -- the points or zones of a line are among these numbers
 abbrev pub Listed : OtherCall → List ℕ → Type 0
@@ -227,10 +213,10 @@ Listed Zones ns = list_fields zone_numbers_of ns ≤ length ns
 Listed Totals ns = Unit
 Listed Saves ns = Unit
 
-abbrev pub CallListed : Call → List ℕ → Type 0
+abbrev pub CallListed : LineCall → List ℕ → Type 0
 CallListed (Flight call) ns = Unit
 CallListed (Other call) ns = Listed call ns
 
--- a call or a refusal, with the line's numbers, is what is asked
-abbrev pub Says : Result Call Refusal → List ℕ → Asked → Type 0
-Says said ns asked = (said_of ns said ≡ asked) × IfOk said (λ call. CallListed call ns)
+-- a function that reads a line answers so where this is asked, and the points or zones asked for are all among the line's numbers
+abbrev pub Asks : Result LineCall Refusal → List ℕ → Asked → Type 0
+Asks answer ns asked = (result_asks ns answer ≡ asked) × IfOk answer (λ call. CallListed call ns)

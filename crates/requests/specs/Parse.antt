@@ -1,14 +1,14 @@
--- What a line asks, or the refusal that fits it whatever the state.
+-- The sheet's lines: what a line's bytes ask, or the refusal 2, 3, 4 or 5 that fits them whatever the state.
 use Rattle.std.specs.Prelude.{ℕ, List, Option, Some, None, Err}
 use Rattle.columns.specs.Field.{kind_of}
 use Rattle.columns.specs.Line.{line_fields, read_within, numbers_over}
 use Rattle.falcon_core.specs.declared.refusal.Refusal.TheVariants.{NotALine}
-use Rattle.requests.specs.Kinds.{Asked, request_of}
+use Rattle.requests.specs.Kinds.{Asked, numbers_ask}
 
--- what a line asks once it is read
-abbrev pub asked_by : Option (List ℕ) → Asked
-asked_by (Some ns) = request_of ns
-asked_by None = Err NotALine
+-- what a line asks once it is read: its numbers, or none
+abbrev pub read_asks : Option (List ℕ) → Asked
+read_asks (Some ns) = numbers_ask ns
+read_asks None = Err NotALine
 
 -- how many fields a line may have, by its kind: "At most 130 fields"
 unfoldable pub limit_fields_of : Option ℕ → ℕ
@@ -20,12 +20,12 @@ abbrev pub most_fields : ℕ
 most_fields = line_fields
 
 -- the numbers of a line, or None where it is no sheet line
-unfoldable pub reading_line : List ℕ → Option (List ℕ)
-reading_line line = read_within (limit_fields_of (kind_of line)) line
+unfoldable pub line_numbers : List ℕ → Option (List ℕ)
+line_numbers line = read_within (limit_fields_of (kind_of line)) line
 
 -- what a line asks: 2, 3, 4 and 5 in this order
-unfoldable pub asked_line : List ℕ → Asked
-asked_line line = asked_by (reading_line line)
+unfoldable pub line_asks : List ℕ → Asked
+line_asks line = read_asks (line_numbers line)
 
 -- the array that takes a line's numbers, after it: those before the first bad field, and behind them what stood there
 unfoldable pub numbers_after : List ℕ → List ℕ → List ℕ

@@ -1,14 +1,13 @@
 // The kinds of lines: from the numbers of a line to what it asks.
 ghost use Rattle.std.specs.Prelude.{◌≡◌, ◌≢◌, ◌+◌, ◌<◌, ◌≤◌, cond, eqb, leb, length, MatchResult, ok_or};
-ghost use Rattle.falcon_guidance.specs.State.{zone_numbers_of};
+ghost use Rattle.falcon_state.specs.Zone.{zone_numbers_of};
 ghost use Rattle.falcon_core.specs.declared.refusal.Refusal.TheVariants.{UnknownKind as unknown_kind};
 ghost use Rattle.falcon_record.specs.From.{point_from_of};
 ghost use Rattle.requests.specs.Kinds.{opening_line_of, reading_from_of, battery_ok_of, tick_line_of};
-ghost use Rattle.requests.specs.Kinds.{report_line_of, command_line_of, is_list_of, kind_at, request_of, Says};
+ghost use Rattle.requests.specs.Kinds.{report_line_of, command_line_of, is_list_of, kind_at, numbers_ask, Asks};
 
 use falcon_core::refusal::Refusal;
-use falcon_failsafe::flight::Opening;
-use falcon_guidance::state::{Point, Tick, Zone};
+use falcon_state::{Opening, Point, Tick, Zone};
 use relay_batt::Reading;
 use relay_fsm::Event;
 use relay_math::from_bits;
@@ -34,7 +33,7 @@ pub struct UnknownKind(pub u32);
 
 // What a line asks.
 #[derive(Clone, Copy)]
-pub enum Call {
+pub enum LineCall {
     Flight(FlightCall),
     Other(OtherCall),
 }
@@ -145,10 +144,10 @@ fn counted<const N: usize>(ns: &[u32]) -> Result<&[u32; N], Refusal>
 
 // A line of kind 1.
 #[tactic(auto, unfolding(crate::specs::Kinds::opening_line_of, crate::specs::Kinds::opening_from_of))]
-fn opening_line(ns: &[u32; Kind::OPENING_FIELDS]) -> Result<Call, Refusal>
-    ensures { Says result ns.now (opening_line_of ns.now) }
+fn opening_line(ns: &[u32; Kind::OPENING_FIELDS]) -> Result<LineCall, Refusal>
+    ensures { Asks result ns.now (opening_line_of ns.now) }
 {
-    Ok(Call::Other(OtherCall::Opens(Opening {
+    Ok(LineCall::Other(OtherCall::Opens(Opening {
         home: point_from(ns, 1),
         fence_radius: from_bits(ns[4]),
         cruise_alt: from_bits(ns[5]),
@@ -176,10 +175,10 @@ fn reading(ns: &[u32; Kind::TICK_FIELDS]) -> Result<Reading, Refusal>
 
 // A line of kind 2.
 #[tactic(auto, unfolding(crate::specs::Kinds::tick_line_of, crate::specs::Kinds::tick_from_of, crate::specs::Kinds::tick_ok_of))]
-fn tick_line(ns: &[u32; Kind::TICK_FIELDS]) -> Result<Call, Refusal>
-    ensures { Says result ns.now (tick_line_of ns.now) }
+fn tick_line(ns: &[u32; Kind::TICK_FIELDS]) -> Result<LineCall, Refusal>
+    ensures { Asks result ns.now (tick_line_of ns.now) }
 {
-    Ok(Call::Flight(FlightCall::Ticks(Tick {
+    Ok(LineCall::Flight(FlightCall::Ticks(Tick {
         dt: from_bits(ns[1]),
         p: point_from(ns, 2),
         v: point_from(ns, 5),
@@ -196,26 +195,26 @@ fn tick_line(ns: &[u32; Kind::TICK_FIELDS]) -> Result<Call, Refusal>
 
 // A line of kind 3.
 #[tactic(auto, unfolding(crate::specs::Kinds::report_line_of))]
-fn report_line(ns: &[u32; Kind::REPORT_FIELDS]) -> Result<Call, Refusal>
-    ensures { Says result ns.now (report_line_of ns.now) }
+fn report_line(ns: &[u32; Kind::REPORT_FIELDS]) -> Result<LineCall, Refusal>
+    ensures { Asks result ns.now (report_line_of ns.now) }
 {
-    Ok(Call::Flight(FlightCall::Reports(flag(ns[1])?)))
+    Ok(LineCall::Flight(FlightCall::Reports(flag(ns[1])?)))
 }
 
 // A line of kind 4.
 #[tactic(auto, unfolding(crate::specs::Kinds::command_line_of))]
-fn command_line(ns: &[u32; Kind::COMMAND_FIELDS]) -> Result<Call, Refusal>
-    ensures { Says result ns.now (command_line_of ns.now) }
+fn command_line(ns: &[u32; Kind::COMMAND_FIELDS]) -> Result<LineCall, Refusal>
+    ensures { Asks result ns.now (command_line_of ns.now) }
 {
-    Ok(Call::Flight(FlightCall::Commands {
+    Ok(LineCall::Flight(FlightCall::Commands {
         ev: Event::try_from(ns[1]).map_err(|_| Refusal::OutOfRange)?,
         level: flag(ns[2])?,
         throttle_low: flag(ns[3])?,
     }))
 }
 
-// Whether a line of points or zones has the numbers that it says, `width` for each.
-fn list_line(ns: &[u32], width: usize) -> Result<(), Refusal>
+// A line of points or zones has the numbers that it says, `width` for each.
+fn counted_list(ns: &[u32], width: usize) -> Result<(), Refusal>
     requires { width ≤ zone_numbers_of }
     ensures { result ≡ cond (is_list_of width ns.now) (Ok tt) (Err Refusal.WrongCount) }
 {
@@ -227,10 +226,10 @@ fn list_line(ns: &[u32], width: usize) -> Result<(), Refusal>
 }
 
 // What the numbers of a line ask, by its kind.
-#[tactic(auto, unfolding(crate::specs::Kinds::request_of, crate::specs::Kinds::kind_at, crate::specs::Kinds::points_line_of, crate::specs::Kinds::zones_line_of, crate::specs::Kinds::alone_line_of, crate::specs::Kinds::opening_line_of, crate::specs::Kinds::tick_line_of, crate::specs::Kinds::report_line_of, crate::specs::Kinds::command_line_of))]
-pub(crate) fn call_of(ns: &[u32]) -> Result<Call, Refusal>
+#[tactic(auto, unfolding(crate::specs::Kinds::numbers_ask, crate::specs::Kinds::kind_at, crate::specs::Kinds::points_line_of, crate::specs::Kinds::zones_line_of, crate::specs::Kinds::alone_line_of, crate::specs::Kinds::opening_line_of, crate::specs::Kinds::tick_line_of, crate::specs::Kinds::report_line_of, crate::specs::Kinds::command_line_of))]
+pub(crate) fn numbers_ask(ns: &[u32]) -> Result<LineCall, Refusal>
     requires { 0 < length ns.now }
-    ensures { Says result ns.now (request_of ns.now) }
+    ensures { Asks result ns.now (numbers_ask ns.now) }
 {
     match Kind::try_from(ns[0])? {
         Kind::Opening => opening_line(counted(ns)?),
@@ -238,20 +237,20 @@ pub(crate) fn call_of(ns: &[u32]) -> Result<Call, Refusal>
         Kind::Report => report_line(counted(ns)?),
         Kind::Command => command_line(counted(ns)?),
         Kind::Points => {
-            list_line(ns, Point::NUMBERS)?;
-            Ok(Call::Other(OtherCall::Points))
+            counted_list(ns, Point::NUMBERS)?;
+            Ok(LineCall::Other(OtherCall::Points))
         }
         Kind::Zones => {
-            list_line(ns, Zone::NUMBERS)?;
-            Ok(Call::Other(OtherCall::Zones))
+            counted_list(ns, Zone::NUMBERS)?;
+            Ok(LineCall::Other(OtherCall::Zones))
         }
         Kind::Totals => {
             counted::<{ Kind::ALONE_FIELDS }>(ns)?;
-            Ok(Call::Other(OtherCall::Totals))
+            Ok(LineCall::Other(OtherCall::Totals))
         }
         Kind::Saves => {
             counted::<{ Kind::ALONE_FIELDS }>(ns)?;
-            Ok(Call::Other(OtherCall::Saves))
+            Ok(LineCall::Other(OtherCall::Saves))
         }
     }
 }

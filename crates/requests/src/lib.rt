@@ -1,4 +1,4 @@
-// From a line's numbers to a call.
+// From a line of a sheet to what it asks, and how much room its answer needs.
 #![tactic(auto)]
 
 pub mod kinds;

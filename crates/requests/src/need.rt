@@ -4,7 +4,7 @@ ghost use Rattle.requests.specs.ByLine.{need_fields_of, need_of};
 
 use crate::kinds::Kind;
 use columns::field::{FIELD, read_kind};
-use falcon_core::calls::Answer;
+use falcon_core::answer::Answer;
 use falcon_record::RECORD_ROOM;
 
 // The fields that an answer with the state needs: room for a record of every form that its line may have.
@@ -26,6 +26,7 @@ fn need_fields(kind: Option<u32>) -> usize
 }
 
 // How many bytes the answer to a line needs.
+#[tactic(auto, unfolding(crate::specs::ByLine::need_of), using(crate::proofs::Buffer::need_most))]
 fn need_of(line: &[u8]) -> usize
     ensures { result ≡ need_of line.now }
 {
@@ -33,6 +34,7 @@ fn need_of(line: &[u8]) -> usize
 }
 
 // Whether so many bytes are too few for the answer to a line. The kind is read only where that matters.
+#[tactic(auto, using(crate::proofs::Buffer::needs_most))]
 pub fn is_short(line: &[u8], room: usize) -> bool
     ensures { result ≡ ltb room (need_of line.now) }
 {
@@ -40,6 +42,7 @@ pub fn is_short(line: &[u8], room: usize) -> bool
 }
 
 // Whether so many bytes are too few for the answer to a line and a newline.
+#[tactic(auto, using(crate::proofs::Buffer::needs_least))]
 pub fn lacks_room(line: &[u8], room: usize) -> bool
     ensures { result ≡ leb room (need_of line.now) }
 {

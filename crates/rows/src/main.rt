@@ -1,17 +1,16 @@
 // Answers document 01's examples, the harness's cases and a sample of generated sheets, which standard input has one after the other.
 #![tactic(auto)]
 
-ghost use Rattle.std.specs.Prelude.{◌≡◌, ◌+◌, ◌≤◌, true};
-ghost use Rattle.falcon_core.specs.Supervisor.{unopened};
+ghost use Rattle.std.specs.Prelude.{◌≡◌, ◌+◌, ◌≤◌, true, length};
+ghost use Rattle.falcon_core.specs.Calls.{unopened};
 ghost use Rattle.sheet.specs.Lines.{lines_of};
 ghost use Rattle.sheet.specs.Many.{fitting};
 
 use columns::field::{FIELD, read_field_of, write_numbers};
 use falcon_core::refusal::Refusal;
 use falcon_core::supervisor::Supervisor;
-use falcon_failsafe::flight::Opening;
-use falcon_guidance::state::Point;
 use falcon_record::save;
+use falcon_state::{Opening, Point};
 use sheet::entry::answer;
 use sheet::many::answer_sheet;
 use std::io::{Read, Write};
@@ -37,8 +36,9 @@ fn print_number(output: &mut Stdout, n: u32) {
 }
 
 // Answers a sheet, with no opening yet, on standard output. Answers whether the answers to all its lines fit the buffer.
+#[tactic(auto, using(sheet::proofs::Replies::progress_written, sheet::proofs::Sheets::all_answered))]
 fn write_answers(output: &mut Stdout, sheet: &[u8], out: &mut [u8; ROOM]) -> bool
-    ensures { result ≡ true → fitting unopened (lines_of sheet.now) out.old ≡ lines_of sheet.now }
+    ensures { result ≡ true → fitting unopened (lines_of sheet.now) (length out.old) ≡ lines_of sheet.now }
 {
     let progress = answer_sheet(sheet, out);
     print(output, &out[..progress.written]);

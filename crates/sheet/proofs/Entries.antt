@@ -1,20 +1,22 @@
--- What the calls of a line leave: the state after it, and the numbers of its answer. Assumes nothing.
+-- What a line leaves is the state after what it asks, and the numbers of that answer at the front of an array.
 use Rattle.std.proofs.Common.{ℕ, ◌+◌, ◌≤◌, arith, append_assoc, length-append, ◌≡◌, Bool, List, [], ◌++◌, length, take, refl, sym, ap, ◌∙◌}
 use Rattle.std.specs.Prelude.{Option, Some, None, Result, Ok, Err, MatchResult, IsOkAnd}
 use Rattle.std.specs.Option.{option_map_or}
 use Rattle.std.proofs.Math.Seq.{take-append_seam}
 use Rattle.relay_fsm.specs.declared.Event.{Event}
-use Rattle.falcon_guidance.specs.declared.state.Point.{Point}
-use Rattle.falcon_guidance.specs.declared.state.Legs.{Legs}
+use Rattle.falcon_state.specs.declared.point.Point.{Point}
+use Rattle.falcon_state.specs.declared.mission.Legs.{Legs}
 use Rattle.falcon_core.specs.declared.refusal.Refusal.{Refusal}
 use Rattle.falcon_core.specs.declared.supervisor.Supervisor.{Supervisor}
-use Rattle.falcon_core.specs.declared.calls.Answer.{Answer}
-use Rattle.falcon_core.specs.declared.calls.Output.{Output}
-use Rattle.falcon_core.specs.declared.calls.Output.TheVariants.{Nothing, Ticks as TickOutput, Totals, Record}
-use Rattle.falcon_core.specs.declared.calls.Answered.{Answered}
-use Rattle.falcon_core.specs.declared.calls.Flown.{Flown}
-use Rattle.falcon_core.specs.declared.calls.FlownAnswered.{FlownAnswered}
-use Rattle.falcon_core.specs.Calls.{answer_fields, numbers_of, reports, commands, is_report, sequence_refusal_of, legs_in, flight_after, output_of, answer_of, refused_of, flown_refused_of, flown_accepted_of, no_legs, flight_step_of, beside_of, step_of}
+use Rattle.falcon_core.specs.declared.answer.Answer.{Answer}
+use Rattle.falcon_core.specs.declared.answer.Output.{Output}
+use Rattle.falcon_core.specs.declared.answer.Output.TheVariants.{Nothing, Ticks as TickOutput, Totals, Record}
+use Rattle.falcon_core.specs.declared.supervisor.Answered.{Answered}
+use Rattle.falcon_core.specs.declared.flown.Flown.{Flown}
+use Rattle.falcon_core.specs.declared.flown.FlownAnswered.{FlownAnswered}
+use Rattle.falcon_core.specs.Answer.{answer_fields, numbers_of, answer_of}
+use Rattle.falcon_core.specs.Calls.{reports, commands, is_report, sequence_refusal_of, legs_in, flight_after, output_of, refused_of, step_of}
+use Rattle.falcon_core.specs.Flown.{flown_refused_of, flown_accepted_of, no_legs, flight_step_of, beside_of}
 use Rattle.falcon_core.proofs.FlightCalls.{tick_beside, report_beside, command_beside}
 use Rattle.falcon_core.proofs.Numbers.{numbers_count}
 use Rattle.requests.specs.declared.kinds.FlightCall.{FlightCall}
@@ -96,32 +98,32 @@ flight_ten s w l call = go (sequence_refusal_of w.opened w.report_due (is_report
     go None (Commands ev level low) = refl
 
 module _ (w : Flown) (ps : List Point) where
-  abbrev whole : Supervisor
-  whole = state_of w ps
+  abbrev state : Supervisor
+  state = state_of w ps
 
   abbrev parts : FlightCall → FlownAnswered
-  parts call = flight_step_of w (legs_in whole) (flight_asks call)
+  parts call = flight_step_of w (legs_in state) (flight_asks call)
 
-  pub call_beside : (call : FlightCall) → beside_of whole (parts call) ≡ step_of whole (flight_asks call)
-  call_beside (Ticks t) = tick_beside whole t (legs_in whole) w (parts (Ticks t)) refl refl refl
-  call_beside (Reports failed) = report_beside whole failed w (parts (Reports failed)) refl (sym (report_legs w (legs_in whole) failed))
+  pub call_beside : (call : FlightCall) → beside_of state (parts call) ≡ step_of state (flight_asks call)
+  call_beside (Ticks t) = tick_beside state t (legs_in state) w (parts (Ticks t)) refl refl refl
+  call_beside (Reports failed) = report_beside state failed w (parts (Reports failed)) refl (sym (report_legs w (legs_in state) failed))
   call_beside (Commands ev level low) =
-      command_beside whole ev level low w (parts (Commands ev level low)) refl (sym (command_legs w (legs_in whole) ev level low))
+      command_beside state ev level low w (parts (Commands ev level low)) refl (sym (command_legs w (legs_in state) ev level low))
 
   -- the waypoints stay
   pub replied_flight :
       (call : FlightCall) (l : Legs) (told : FlownAnswered) (ns d : List ℕ) →
-      l ≡ legs_in whole →
+      l ≡ legs_in state →
       told ≡ flight_step_of w l (flight_asks call) →
       ns ≡ numbers_of told.answer ++ d →
       answer_fields ≤ length ns →
-      Replied (step_of whole (flight_asks call)) (state_of told.flown ps) ns answer_fields
+      Replied (step_of state (flight_asks call)) (state_of told.flown ps) ns answer_fields
   replied_flight call l told ns d legs is e room =
-      let all : beside_of whole told ≡ step_of whole (flight_asks call) =
-      ap (beside_of whole) (is ∙ ap (λ (x : Legs). flight_step_of w x (flight_asks call)) legs) ∙ call_beside call in
-      let none : extra_of (beside_of whole told).supervisor told.answer.outcome ≡ [] =
-      ap (λ (x : FlownAnswered). extra_of (beside_of whole told).supervisor x.answer.outcome) is ∙ flight_ten _ w l call in
-      rw (← all) (replied_ten (beside_of whole told) ns d none e room)
+      let all : beside_of state told ≡ step_of state (flight_asks call) =
+      ap (beside_of state) (is ∙ ap (λ (x : Legs). flight_step_of w x (flight_asks call)) legs) ∙ call_beside call in
+      let none : extra_of (beside_of state told).supervisor told.answer.outcome ≡ [] =
+      ap (λ (x : FlownAnswered). extra_of (beside_of state told).supervisor x.answer.outcome) is ∙ flight_ten _ w l call in
+      rw (← all) (replied_ten (beside_of state told) ns d none e room)
 
 -- ---- a line that is refused
 

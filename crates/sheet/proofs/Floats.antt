@@ -1,4 +1,4 @@
--- The numbers of a line read as floats. Assumes nothing.
+-- The floats of a line are its numbers read as bits.
 use Rattle.std.proofs.Common.{ℕ, ◌+◌, ◌-◌, ◌<◌, ◌≡◌, List, map, length, take, drop, sym, ap, ◌∙◌, arith}
 use Rattle.std.specs.Fn.{Called}
 use Rattle.std.specs.Array.{IsMapOf}

@@ -1,4 +1,3 @@
-mod Examples
 mod Floats
 pub mod Entries
 pub mod LinesAgain

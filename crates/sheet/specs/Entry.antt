@@ -1,8 +1,8 @@
 -- What `answer` gives back, and what a line leaves: the state after it, and the numbers of its answer.
 use Rattle.std.specs.Prelude.{ℕ, ◌≤◌, ◌≡◌, List, length, take, Result, Ok, Err}
 use Rattle.falcon_core.specs.declared.supervisor.Supervisor.{Supervisor}
-use Rattle.falcon_core.specs.declared.calls.Answered.{Answered}
-use Rattle.falcon_core.specs.declared.calls.Output.{Output}
+use Rattle.falcon_core.specs.declared.supervisor.Answered.{Answered}
+use Rattle.falcon_core.specs.declared.answer.Output.{Output}
 use Rattle.falcon_core.specs.declared.refusal.Refusal.{Refusal}
 use Rattle.requests.specs.ByLine.{reply_numbers}
 use Rattle.sheet.specs.declared.entry.LineAnswered.{LineAnswered}

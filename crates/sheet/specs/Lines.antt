@@ -1,5 +1,5 @@
--- Many lines: how bytes part into lines, and what a step for one line makes of them, whole or read in parts.
-use Rattle.std.specs.Prelude.{Option, Some, None, ℕ, zero, suc, ◌+◌, ◌-◌, ◌*◌, cond, List, [], ◌∷◌, ◌++◌, eqb, ltb, length, take, drop}
+-- The sheet's lines: how bytes part into them, and what is kept of a line begun.
+use Rattle.std.specs.Prelude.{Option, Some, None, ℕ, zero, suc, ◌+◌, ◌*◌, cond, List, [], ◌∷◌, ◌++◌, eqb, ltb, length, take, drop}
 use Rattle.std.proofs.Math.Seq.{slice}
 use Rattle.columns.specs.Field.{field_width}
 use Rattle.requests.specs.Parse.{most_fields}
@@ -7,24 +7,24 @@ use Rattle.requests.specs.Parse.{most_fields}
 abbrev pub newline : ℕ
 newline = 10
 
--- a byte in front of the first line, where there is one
-unfoldable pub ahead : ℕ → List (List ℕ) → List (List ℕ)
-ahead b [] = []
-ahead b (l ∷ ls) = (b ∷ l) ∷ ls
+-- a byte put in front of the first line, where there is one
+unfoldable pub byte_in_front : ℕ → List (List ℕ) → List (List ℕ)
+byte_in_front b [] = []
+byte_in_front b (l ∷ ls) = (b ∷ l) ∷ ls
 
--- the lines that a newline ends, without it
-unfoldable pub whole : List ℕ → List (List ℕ)
-whole [] = []
-whole (b ∷ s) = cond (eqb b newline) ([] ∷ whole s) (ahead b (whole s))
+-- the lines that a newline ends, each without it
+unfoldable pub whole_lines : List ℕ → List (List ℕ)
+whole_lines [] = []
+whole_lines (b ∷ s) = cond (eqb b newline) ([] ∷ whole_lines s) (byte_in_front b (whole_lines s))
 
 -- lines with a newline after each
-unfoldable pub joined : List (List ℕ) → List ℕ
-joined [] = []
-joined (l ∷ ls) = l ++ (newline ∷ joined ls)
+unfoldable pub joined_lines : List (List ℕ) → List ℕ
+joined_lines [] = []
+joined_lines (l ∷ ls) = l ++ (newline ∷ joined_lines ls)
 
--- what stands behind the last newline
-unfoldable pub rest : List ℕ → List ℕ
-rest s = drop (length (joined (whole s))) s
+-- what stands behind the last newline: a line begun, with no newline yet
+unfoldable pub line_begun : List ℕ → List ℕ
+line_begun s = drop (length (joined_lines (whole_lines s))) s
 
 -- "a last line without newline too"; "A newline at the very end begins no further line"
 unfoldable pub last_line : List ℕ → List (List ℕ)
@@ -33,7 +33,7 @@ last_line (b ∷ s) = (b ∷ s) ∷ []
 
 -- the lines of an input; "input of no bytes has no line"
 unfoldable pub lines_of : List ℕ → List (List ℕ)
-lines_of s = whole s ++ last_line (rest s)
+lines_of s = whole_lines s ++ last_line (line_begun s)
 
 -- how many bytes stand before the first newline, or at all where there is none
 unfoldable pub line_end : List ℕ → ℕ
@@ -49,36 +49,5 @@ abbrev pub kept_width : ℕ
 kept_width = field_width * most_fields + 1
 
 -- what is kept of the bytes from place `from` to place `have`
-unfoldable pub kept_of : List ℕ → ℕ → ℕ → List ℕ
-kept_of l from have = take kept_width (slice from have l)
-
--- parts of an input, one after the other
-unfoldable pub together : List (List ℕ) → List ℕ
-together [] = []
-together (c ∷ cs) = c ++ together cs
-
--- the state after several lines, with the state after one
-module _ {S : Type 0} (after : S → List ℕ → S) where
-  unfoldable pub states_after : S → List (List ℕ) → S
-  states_after s [] = s
-  states_after s (l ∷ ls) = states_after (after s l) ls
-
--- a step for one line: the state after it, and the bytes of its answer
-module _ {S : Type 0} (after : S → List ℕ → S) (reply : S → List ℕ → List ℕ) where
-  -- "answers each line with a line"
-  unfoldable pub answers : S → List (List ℕ) → List ℕ
-  answers s [] = []
-  answers s (l ∷ ls) = reply s l ++ (newline ∷ answers (after s l) ls)
-
-  -- the answers of a reader of parts, which keeps so many bytes of the line begun
-  unfoldable pub stream : ℕ → S → List ℕ → List (List ℕ) → List ℕ
-  stream kept s p [] = answers s (last_line p)
-  stream kept s p (c ∷ cs) =
-      answers s (whole (p ++ c)) ++ stream kept (states_after after s (whole (p ++ c))) (take kept (rest (p ++ c))) cs
-
--- a step for one line, and how much room the kind of a line wants for its answer
-module _ {S : Type 0} (after : S → List ℕ → S) (reply : S → List ℕ → List ℕ) (need : List ℕ → ℕ) where
-  -- the first of these lines, as long as there is room for the next one and its newline
-  unfoldable pub fitting_in : S → List (List ℕ) → ℕ → List (List ℕ)
-  fitting_in s [] room = []
-  fitting_in s (l ∷ ls) room = cond (ltb room (need l + 1)) [] (l ∷ fitting_in (after s l) ls (room - (length (reply s l) + 1)))
+unfoldable pub kept_bytes_of : List ℕ → ℕ → ℕ → List ℕ
+kept_bytes_of l from have = take kept_width (slice from have l)

@@ -2,24 +2,27 @@
 ghost use Rattle.std.specs.Prelude.{◌≡◌, ◌++◌, ◌≤◌, drop, map};
 ghost use Rattle.std.specs.Float.{binary32};
 ghost use Rattle.std.specs.Float.Ieee.{of_bits};
-ghost use Rattle.falcon_guidance.specs.State.{zone_numbers_of};
-ghost use Rattle.falcon_core.specs.Calls.{answer_fields, numbers_of, flight_step_of, step_of};
-ghost use Rattle.requests.specs.Kinds.{answered_by, list_fields, flight_asks, other_asks, Listed};
-ghost use Rattle.requests.specs.Parse.{asked_line};
+ghost use Rattle.falcon_state.specs.Zone.{zone_numbers_of};
+ghost use Rattle.falcon_core.specs.Answer.{answer_fields, numbers_of};
+ghost use Rattle.falcon_core.specs.Flown.{flight_step_of};
+ghost use Rattle.falcon_core.specs.Calls.{step_of};
+ghost use Rattle.requests.specs.Kinds.{asked_step, list_fields, flight_asks, other_asks, Listed};
+ghost use Rattle.requests.specs.Parse.{line_asks};
 ghost use Rattle.requests.specs.ByLine.{line_step, buffer_after};
 ghost use Rattle.sheet.specs.Entry.{line_answered, Replied};
 
 use columns::field::write_numbers;
-use falcon_core::calls::{Answer, Answered, Flown, FlownAnswered, Output, refused};
+use falcon_core::answer::{Answer, Output};
+use falcon_core::flown::{Flown, FlownAnswered};
 use falcon_core::refusal::Refusal;
-use falcon_core::supervisor::Supervisor;
+use falcon_core::supervisor::{Answered, Supervisor, refused};
 use falcon_guidance::legs::legs;
-use falcon_guidance::state::{Legs, Point, Zone};
 use falcon_record::{RECORD_FIELDS, record_columns};
+use falcon_state::{Legs, Point, Zone};
 use relay_math::from_bits;
-use requests::kinds::{Call, FlightCall, Kind, OtherCall};
+use requests::kinds::{FlightCall, Kind, LineCall, OtherCall};
 use requests::need::is_short;
-use requests::parse::{NUMBER_PLACES, asked};
+use requests::parse::{NUMBER_PLACES, line_asks};
 
 // The numbers of an answer with a record.
 const WITH_RECORD: usize = Answer::FIELDS + RECORD_FIELDS;
@@ -32,6 +35,7 @@ pub struct LineAnswered {
 }
 
 // A tick, a report or a command, with the waypoints of the active leg and of the next.
+#[tactic(auto, using(crate::proofs::Entries::report_legs, crate::proofs::Entries::command_legs))]
 pub(crate) fn flight_step(flown: Flown, legs: Legs, call: FlightCall) -> FlownAnswered
     ensures { result ≡ flight_step_of flown legs (flight_asks call) }
 {
@@ -89,10 +93,10 @@ pub(crate) fn answer_line(
     line: &[u8],
     numbers: &mut [u32; NUMBER_PLACES],
 ) -> Answered
-    ensures { result ≡ answered_by s (asked_line line.now) }
+    ensures { result ≡ asked_step s (line_asks line.now) }
 {
-    match asked(line, numbers) {
-        Ok(Call::Flight(call)) => {
+    match line_asks(line, numbers) {
+        Ok(LineCall::Flight(call)) => {
             let legs = legs(s.flight.config, s.waypoints, s.flight.mission);
             let told = flight_step(s.flown(), legs, call);
             Answered {
@@ -100,7 +104,7 @@ pub(crate) fn answer_line(
                 answer: told.answer,
             }
         }
-        Ok(Call::Other(call)) => other_step(s, call, numbers),
+        Ok(LineCall::Other(call)) => other_step(s, call, numbers),
         Err(refusal) => refused(s, refusal),
     }
 }
@@ -113,6 +117,7 @@ pub(crate) fn put_answer(numbers: &mut [u32; NUMBER_PLACES], a: Answer)
 }
 
 // All numbers of an answer, at the front of the array: the ten, and what it tells of the state. Answers how many they are: one array serves all lines (docs/SPEED.md).
+#[tactic(auto, using(crate::proofs::Entries::told_none, crate::proofs::Entries::replied_ten))]
 pub(crate) fn put_reply(numbers: &mut [u32; NUMBER_PLACES], answered: Answered) -> usize
     ensures { Replied answered answered.supervisor numbers.new result }
 {

@@ -1,7 +1,7 @@
 // Many lines.
 
 ghost use Rattle.std.specs.Prelude.{◌==◌, ◌≡◌, ◌++◌, length, drop, position};
-ghost use Rattle.sheet.specs.Lines.{newline, newline_at, kept_of};
+ghost use Rattle.sheet.specs.Lines.{newline, newline_at, kept_bytes_of};
 
 use columns::field::FIELD;
 use requests::parse::MOST_FIELDS;
@@ -17,6 +17,7 @@ fn next_newline(bytes: &[u8]) -> Option<usize>
 }
 
 // The place of the first newline from `from` on, where there is one.
+#[tactic(auto, using(crate::proofs::LinesTurns::place_none, crate::proofs::LinesTurns::no_place))]
 pub fn find_newline(input: &[u8], from: usize) -> Option<usize>
     ensures { result ≡ newline_at input.now from }
 {
@@ -35,9 +36,10 @@ pub fn find_newline(input: &[u8], from: usize) -> Option<usize>
 pub const KEPT: usize = FIELD * MOST_FIELDS + 1;
 
 // What is kept of the bytes from `from` to `have`, moved to the front of the whole buffer. Answers how many they are.
+#[tactic(auto, using(crate::proofs::LinesTurns::kept_length, crate::proofs::LinesTurns::kept_moved))]
 pub fn keep(buf: &mut [u8], from: usize, have: usize) -> usize
-    ensures value { result ≡ length (kept_of buf.old from have) }
-    ensures buf_after { buf.new ≡ kept_of buf.old from have ++ drop (length (kept_of buf.old from have)) buf.old }
+    ensures value { result ≡ length (kept_bytes_of buf.old from have) }
+    ensures buf_after { buf.new ≡ kept_bytes_of buf.old from have ++ drop (length (kept_bytes_of buf.old from have)) buf.old }
 {
     let end = have.min(buf.len());
     let start = from.min(end);

@@ -1,22 +1,23 @@
 // Many lines answered into one buffer, each answer with a newline after it.
 
 ghost use Rattle.std.specs.Prelude.{◌+◌, ◌*◌, ◌≤◌, ◌≡◌, ◌++◌, ◌∷◌, [], length};
-ghost use Rattle.falcon_core.specs.Supervisor.{unopened};
+ghost use Rattle.falcon_core.specs.Calls.{unopened};
 ghost use Rattle.columns.specs.Field.{field_width, put};
 ghost use Rattle.columns.specs.Line.{line_of};
-ghost use Rattle.sheet.specs.Lines.{newline, whole, last_line, lines_of};
-ghost use Rattle.sheet.specs.Many.{fitting, EndsFitting, state_of, progress_of, progress_in, answers_over};
+ghost use Rattle.sheet.specs.Lines.{newline, whole_lines, last_line, lines_of};
+ghost use Rattle.sheet.specs.Many.{fitting, EndsFitting, state_of, progress_of, answers_over};
 
 use crate::entry::{answer_line, flight_step, other_step, put_answer, put_reply};
 use crate::lines::find_newline;
 use columns::field::{FIELD, write_numbers};
-use falcon_core::calls::{Answer, Flown, refused};
-use falcon_core::supervisor::Supervisor;
+use falcon_core::answer::Answer;
+use falcon_core::flown::Flown;
+use falcon_core::supervisor::{Supervisor, refused};
 use falcon_guidance::legs::{here_place, legs_from, next_place};
-use falcon_guidance::state::Point;
-use requests::kinds::Call;
+use falcon_state::Point;
+use requests::kinds::LineCall;
 use requests::need::lacks_room;
-use requests::parse::{NUMBER_PLACES, asked};
+use requests::parse::{NUMBER_PLACES, line_asks};
 
 // What was answered: the state after it, the bytes read and written, and the lines.
 #[derive(Clone, Copy)]
@@ -40,6 +41,7 @@ fn write_reply(numbers: &[u32], out: &mut [u8], at: usize) -> usize
 }
 
 // The end of the line at `from`, where a newline ends it and its answer with a newline fits so many bytes.
+#[tactic(auto, unfolding(crate::specs::Lines::newline_at), using(std::proofs::lemmas::Bool::Decides::nat_tests, crate::proofs::Replies::ends_fitting))]
 fn next_fitting(input: &[u8], from: usize, room: usize) -> Option<usize>
     ensures { EndsFitting input.now from room result }
 {
@@ -64,9 +66,10 @@ fn whole_state(flown: Flown, waypoints: [Point; Point::MAX_WAYPOINTS]) -> Superv
 }
 
 // Answers the lines that a newline ends, in order, as many as fit the buffer. That the input is unchanged is said at each entry, where a reader looks for it.
+#[tactic(auto, using(falcon_guidance::proofs::LegPlaces::place_below))]
 pub fn answer_lines(s: Supervisor, input: &[u8], out: &mut [u8]) -> Progress
-    ensures progress { result ≡ progress_of s (fitting s (whole input.now) out.old) }
-    ensures buffer { out.new ≡ answers_over s (fitting s (whole input.now) out.old) out.old }
+    ensures progress { result ≡ progress_of input.now s (fitting s (whole_lines input.now) (length out.old)) }
+    ensures buffer { out.new ≡ answers_over s (fitting s (whole_lines input.now) (length out.old)) out.old }
     ensures unchanged { input.exit.now ≡ input.entry.now }
 {
     let mut numbers = [0u32; NUMBER_PLACES];
@@ -78,8 +81,8 @@ pub fn answer_lines(s: Supervisor, input: &[u8], out: &mut [u8]) -> Progress
     let mut lines = 0;
     while let Some(end) = next_fitting(input, used, out.len() - written) {
         let mut count = Answer::FIELDS;
-        match asked(&input[used..end], &mut numbers) {
-            Ok(Call::Flight(call)) => {
+        match line_asks(&input[used..end], &mut numbers) {
+            Ok(LineCall::Flight(call)) => {
                 let config = flown.flight.config;
                 let mission = flown.flight.mission;
                 let here = waypoints[here_place(mission)];
@@ -88,7 +91,7 @@ pub fn answer_lines(s: Supervisor, input: &[u8], out: &mut [u8]) -> Progress
                 flown = told.flown;
                 put_answer(&mut numbers, told.answer);
             }
-            Ok(Call::Other(call)) => {
+            Ok(LineCall::Other(call)) => {
                 let answered = other_step(whole_state(flown, waypoints), call, &numbers);
                 let after = answered.supervisor;
                 flown = after.flown();
@@ -113,8 +116,9 @@ pub fn answer_lines(s: Supervisor, input: &[u8], out: &mut [u8]) -> Progress
 }
 
 // What was answered where no line was.
+#[tactic(auto, unfolding(crate::specs::Many::progress_of, crate::specs::Many::states_after, crate::specs::Many::replies, crate::specs::Lines::joined_lines))]
 fn none_answered(supervisor: Supervisor) -> Progress
-    ensures { result ≡ progress_of supervisor [] }
+    ensures { result ≡ progress_of [] supervisor [] }
 {
     Progress {
         supervisor,
@@ -126,8 +130,8 @@ fn none_answered(supervisor: Supervisor) -> Progress
 
 // Answers a last line without newline, where there is one and its answer fits.
 pub fn answer_last(s: Supervisor, input: &[u8], out: &mut [u8]) -> Progress
-    ensures progress { result ≡ progress_in input.now s (fitting s (last_line input.now) out.old) }
-    ensures buffer { out.new ≡ answers_over s (fitting s (last_line input.now) out.old) out.old }
+    ensures progress { result ≡ progress_of input.now s (fitting s (last_line input.now) (length out.old)) }
+    ensures buffer { out.new ≡ answers_over s (fitting s (last_line input.now) (length out.old)) out.old }
     ensures unchanged { input.exit.now ≡ input.entry.now }
 {
     if input.is_empty() || lacks_room(input, out.len()) {
@@ -145,9 +149,10 @@ pub fn answer_last(s: Supervisor, input: &[u8], out: &mut [u8]) -> Progress
 }
 
 // Answers a sheet from the state with no opening, as many of its lines as fit the buffer: all where all its bytes are used.
+#[tactic(auto, using(crate::proofs::Replies::progress_used, crate::proofs::Replies::progress_written))]
 pub fn answer_sheet(input: &[u8], out: &mut [u8]) -> Progress
-    ensures progress { result ≡ progress_in input.now unopened (fitting unopened (lines_of input.now) out.old) }
-    ensures buffer { out.new ≡ answers_over unopened (fitting unopened (lines_of input.now) out.old) out.old }
+    ensures progress { result ≡ progress_of input.now unopened (fitting unopened (lines_of input.now) (length out.old)) }
+    ensures buffer { out.new ≡ answers_over unopened (fitting unopened (lines_of input.now) (length out.old)) out.old }
     ensures unchanged { input.exit.now ≡ input.entry.now }
 {
     let whole = answer_lines(Supervisor::new(), input, out);

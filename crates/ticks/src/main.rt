@@ -2,10 +2,9 @@
 #![tactic(auto)]
 
 use falcon_core::supervisor::Supervisor;
-use falcon_failsafe::flight::Opening;
-use falcon_flight::tick::{TickAnswer, tick};
 use falcon_guidance::legs::legs;
-use falcon_guidance::state::{Point, Tick};
+use falcon_state::{Opening, Point, Tick};
+use falcon_tick::tick::{TickAnswer, tick};
 use relay_batt::Reading;
 use relay_fsm::Event;
 use relay_math::to_bits;

@@ -1,6 +1,6 @@
 use Rattle.std.proofs.Common.{arith, refl}
 use Rattle.sheet.proofs.LinesTurns.{kept_length}
-use Rattle.daysheet.proofs.Reading.{turn_part, reads_none, reads_more}
+use Rattle.daysheet.proofs.ReadParts.{turn_part, reads_none, reads_more}
 use Rattle.daysheet.proofs.read_all.Goals as goal
 
 pub loop-init : goal.loop-init

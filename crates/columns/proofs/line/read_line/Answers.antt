@@ -1,36 +1,17 @@
 -- `read_line` is `line_answer` and `numbers_over`: the length and the places are tried first, and then a turn reads a field.
-use Rattle.std.proofs.Common.{◌≡◌, ℕ, ◌*◌, ◌/◌, ◌<◌, ◌≤◌, true, false, Ok, Err, List, [], length, get_or, take, drop, sym, ap, ◌∙◌, arith, rules}
+use Rattle.std.proofs.Common.{◌≡◌, ℕ, ◌*◌, ◌/◌, ◌<◌, ◌≤◌, true, Ok, Err, List, [], length, get_or, take, drop, sym, ap, ◌∙◌, arith, rules}
 use Rattle.columns.specs.declared.line.LineError.TheVariants.{Broken}
 use Rattle.columns.specs.Field.{field_width, field_read}
-use Rattle.columns.specs.Line.{count_of, length_ok, line_answer, leading}
-use Rattle.columns.proofs.LineAgain.{length_ok_lem, length_none, length_uneven, length_long}
-use Rattle.columns.proofs.LineOver.{bad_answer, bad_over, few_answer, few_over, room_answer, room_over}
+use Rattle.columns.specs.Line.{count_answer, length_ok, line_answer, leading}
+use Rattle.columns.proofs.LineAgain.{length_right}
+use Rattle.columns.proofs.LineOver.{room_answer, room_over}
 use Rattle.columns.proofs.LineTurns.{field_at, read_next, read_bad, read_last}
-use Rattle.columns.proofs.line.read_line.Goals.{At-loop-k, then-count-eq0-via-then-count-eq0, then-count-eq0-via-else-count-eq0+then-limit-count}
+use Rattle.columns.proofs.line.read_line.Goals.{At-loop-k}
 use Rattle.columns.proofs.line.read_line.Goals as goal
-
-pub returns-in_default : goal.returns-in_default
-returns-in_default c = let a = c.args in
-    let bad = length_uneven a.limit (length a.line.now) (λ e. omega arith) in
-    record { value = bad_answer a.limit a.line.now a.numbers.now _ bad; numbers_after = bad_over a.limit a.line.now a.numbers.now bad }
-
-pub returns-then-count-eq0 : goal.returns-then-count-eq0
-returns-then-count-eq0 c = let a = c.args in
-    let bad : length_ok a.limit (length a.line.now) ≡ false = elim c.then-count-eq0.branch [
-      | then-count-eq0-via-then-count-eq0 w ↦ length_none a.limit (length a.line.now) (omega arith)
-      | then-count-eq0-via-else-count-eq0+then-limit-count w ↦ length_long a.limit (length a.line.now) (omega arith)
-    ] in
-    record { value = bad_answer a.limit a.line.now a.numbers.now _ bad; numbers_after = bad_over a.limit a.line.now a.numbers.now bad }
-
-pub returns-then-numbers-count : goal.returns-then-numbers-count
-returns-then-numbers-count c = let a = c.args in
-    let ok = length_ok_lem a.limit (length a.line.now) (omega arith) (omega arith) (omega arith) in
-    let few : length a.numbers.now < length a.line.now / 11 = omega arith in
-    record { value = few_answer a.limit a.line.now a.numbers.now ok few; numbers_after = few_over a.limit a.line.now a.numbers.now few }
 
 -- at the loop the length is right, and there is room
 whole : (c : At-loop-k) → length_ok c.args.limit (length c.args.line.now) ≡ true
-whole c = length_ok_lem c.args.limit (length c.args.line.now) (omega arith) (omega arith) (omega arith)
+whole c = length_right c.args.limit (length c.args.line.now) (omega arith) (omega arith) (omega arith)
 
 room : (c : At-loop-k) → length c.args.line.now / field_width ≤ length c.args.numbers.now
 room c = omega arith
@@ -49,7 +30,7 @@ returns-in_err-numbers c =
     let turn : c.loop-k.k < length a.line.now / field_width = omega arith in
     let bad = sym (sym c.in_err-numbers.ensures.ok_part ∙ c.read_field.ensures ∙ field at turn) in
     let left = read_bad _ _ _ _ _ c.loop-k.invariant (room at) turn bad in
-    let broken : line_answer a.limit a.line.now (length a.numbers.now) ≡ Err Broken = room_answer a.limit a.line.now a.numbers.now (whole at) (room at) ∙ ap count_of left.0 in
+    let broken : line_answer a.limit a.line.now (length a.numbers.now) ≡ Err Broken = room_answer a.limit a.line.now a.numbers.now (whole at) (room at) ∙ ap count_answer left.0 in
     let refused : c.from_residual.result ≡ Err Broken = search rules in
     record { value = refused ∙ sym broken; numbers_after = left.1 ∙ sym (room_over a.limit a.line.now a.numbers.now (whole at) (room at)) }
 
@@ -67,6 +48,6 @@ returns c =
     let all = read_last _ _ _ _ _ c.loop-k.invariant (room at) (omega arith) in
     let same : length c.as_chunks.result.0.now ≡ length (leading (length a.line.now / field_width) a.line.now) = omega (arith, all.1.0) in
     record {
-      value = ap Ok same ∙ sym (room_answer a.limit a.line.now a.numbers.now (whole at) (room at) ∙ ap count_of all.0);
+      value = ap Ok same ∙ sym (room_answer a.limit a.line.now a.numbers.now (whole at) (room at) ∙ ap count_answer all.0);
       numbers_after = all.1.1 ∙ sym (room_over a.limit a.line.now a.numbers.now (whole at) (room at));
     }

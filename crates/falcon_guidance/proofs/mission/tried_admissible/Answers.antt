@@ -5,10 +5,11 @@ use Rattle.std.specs.Cmp.{both_ways}
 use Rattle.std.proofs.lemmas.List.{drop-drop, get_or-take, length-take}
 use native.Mathlib.Nat.{not-suc-le-zero}
 use Rattle.std.specs.Simd.{first_chunks}
-use Rattle.falcon_guidance.specs.declared.state.Config.{Config}
-use Rattle.falcon_guidance.specs.State.{point_numbers_of, max_waypoints}
-use Rattle.falcon_guidance.specs.Chunks.{point_chunk}
-use Rattle.falcon_guidance.specs.Mission.{waypoint_admissible_of, point_at_of, all_admissible_of, tried_of}
+use Rattle.falcon_state.specs.declared.config.Config.{Config}
+use Rattle.falcon_state.specs.Point.{point_numbers_of, max_waypoints}
+use Rattle.falcon_state.proofs.Chunks.{point_chunk}
+use Rattle.falcon_guidance.specs.Mission.{waypoint_admissible_of, all_admissible_of, tried_of}
+use Rattle.falcon_state.specs.Point.{point_at_of}
 use Rattle.falcon_guidance.proofs.Waypoints.{all_good, each_good}
 use Rattle.falcon_guidance.proofs.mission.tried_admissible.Goals as goal
 

@@ -5,9 +5,10 @@ use borrow.Author.Tests.{ltb-true, ltb-false}
 use Rattle.columns.specs.Line.{written_over}
 use Rattle.falcon_core.specs.declared.supervisor.Supervisor.{Supervisor}
 use Rattle.falcon_core.specs.declared.refusal.Refusal.{Refusal}
-use Rattle.falcon_core.specs.Calls.{answer_of, refused_of}
+use Rattle.falcon_core.specs.Answer.{answer_of}
+use Rattle.falcon_core.specs.Calls.{refused_of}
 use Rattle.requests.specs.ByLine.{need_of, reply_numbers}
-use Rattle.requests.proofs.Buffer.{short_step, short_buffer_lem, full_step, full_reply}
+use Rattle.requests.proofs.Buffer.{short_step, short_buffer, full_step, full_reply}
 use Rattle.sheet.specs.declared.entry.LineAnswered.{LineAnswered}
 use Rattle.sheet.specs.Entry.{line_answered}
 use Rattle.sheet.proofs.Entries.{outcome_is}
@@ -19,7 +20,7 @@ returns-then-is_short c = let a = c.args in
     let h = ltb-true (length a.out.now) (need_of a.line.now) (sym c.is_short.ensures ∙ c.if-is_short.true) in
     record {
       answered = sym (ap line_answered (short_step a.s a.line.now a.out.now h));
-      buffer = short_buffer_lem a.s a.line.now a.out.now h;
+      buffer = short_buffer a.s a.line.now a.out.now h;
       unchanged = refl;
     }
 

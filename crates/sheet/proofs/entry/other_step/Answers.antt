@@ -3,8 +3,9 @@ use Rattle.std.proofs.Common.{◌∙◌, ◌*◌, ◌-◌, ap, sym, ℕ, List, t
 use Rattle.std.specs.Prelude.{Float}
 use Rattle.std.specs.Float.{binary32}
 use Rattle.std.specs.Float.Ieee.{of_bits}
-use Rattle.columns.specs.Line.{number_at}
-use Rattle.falcon_guidance.specs.State.{point_numbers_of, zone_numbers_of}
+use Rattle.relay_math.specs.Small.{number_at}
+use Rattle.falcon_state.specs.Point.{point_numbers_of}
+use Rattle.falcon_state.specs.Zone.{zone_numbers_of}
 use Rattle.falcon_core.specs.Calls.{plans, points, zones, step_of}
 use Rattle.requests.specs.declared.kinds.OtherCall.{OtherCall}
 use Rattle.requests.specs.Kinds.{list_head, other_asks}

@@ -1,14 +1,14 @@
 -- By the outcome: nothing, or the numbers of the totals or of the state.
 use Rattle.std.proofs.Common.{arith, sym, ap, ◌∙◌, length}
 use Rattle.std.specs.Prelude.{Result, Ok}
-use Rattle.falcon_core.specs.declared.calls.Output.{Output}
+use Rattle.falcon_core.specs.declared.answer.Output.{Output}
 use Rattle.falcon_core.specs.declared.refusal.Refusal.{Refusal}
 use Rattle.falcon_totals.specs.Totals.{totals_count, totals_numbers}
 use Rattle.falcon_record.specs.Form.{zone_width, zones_at, later_at, fields_of}
 use Rattle.falcon_record.specs.Saved.{record_fields}
 use Rattle.falcon_record.proofs.Saving.{columns_count}
 use Rattle.requests.specs.ByLine.{extra_of}
-use Rattle.sheet.proofs.Entries.{told_none, replied_ten, replied_told}
+use Rattle.sheet.proofs.Entries.{replied_ten, replied_told}
 use Rattle.sheet.proofs.entry.put_reply.Goals as goal
 
 pub returns-in-Totals : goal.returns-in-Totals
@@ -33,8 +33,3 @@ pub returns-in_default : goal.returns-in_default
 unfolding extra_of
 returns-in_default c = let a = c.args.answered in
     replied_ten a c.put_answer.new.numbers _ (ap (λ (o : Result Output Refusal). extra_of a.supervisor o) c.in_default.is) c.put_answer.ensures (omega arith)
-
-pub returns-in_default-output : goal.returns-in_default-output
-returns-in_default-output c = let a = c.args.answered in
-    let none = told_none a.supervisor c.in-Ok.output c.in_default-output.not-Totals c.in_default-output.not-Record in
-    replied_ten a c.put_answer.new.numbers _ (ap (λ (o : Result Output Refusal). extra_of a.supervisor o) c.in-Ok.is ∙ none) c.put_answer.ensures (omega arith)

@@ -2,7 +2,7 @@
 use Rattle.std.proofs.Common.{arith, ap, sym, ◌∙◌, ◌≡◌, ◌<◌, ◌+◌, length, nat_eq, List, ℕ}
 use Rattle.std.specs.List.{list_any}
 use Rattle.sheet.specs.Lines.{newline, line_end}
-use Rattle.sheet.proofs.LinesTurns.{block_passed, place_found, place_none, place_is, no_place}
+use Rattle.sheet.proofs.LinesTurns.{block_passed, place_found, place_is}
 use Rattle.sheet.proofs.lines.find_newline.Goals as goal
 
 pub loop-block-preserved : goal.loop-block-preserved
@@ -12,14 +12,6 @@ loop-block-preserved c =
     let none = ap (list_any (λ b. nat_eq b newline)) (sym h.0) ∙ sym c.contains.ensures.value ∙ c.if-contains.false in
     let passed : line_end l ≡ 16 + line_end c.in-Some.rest.now = block_passed l 16 none (omega arith) ∙ ap (λ (r : List ℕ). 16 + line_end r) (sym h.1) in
     omega arith
-
-pub returns-in_err-behind : goal.returns-in_err-behind
-returns-in_err-behind c = c.from_residual.ensures ∙ no_place c.args.input.now c.args.from (omega (arith, c.in_err-behind.ensures.lookup))
-
-pub returns-in_err-place : goal.returns-in_err-place
-returns-in_err-place c =
-    let none = place_none c.loop-block.behind.now (sym c.next_newline.ensures ∙ c.in_err-place.was) in
-    c.from_residual-in_err-place.ensures ∙ no_place c.args.input.now c.args.from (omega arith)
 
 pub returns : goal.returns
 returns c =

@@ -1,0 +1,2 @@
+pub mod Breach
+pub mod Milestones

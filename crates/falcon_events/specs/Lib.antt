@@ -1,0 +1,2 @@
+pub mod Failsafe
+pub mod Milestone

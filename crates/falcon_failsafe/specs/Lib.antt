@@ -1,3 +1,0 @@
-pub mod Flight
-pub mod Preflight
-pub mod Failsafe

@@ -1,3 +1,0 @@
-pub mod Assembled
-pub mod Milestones
-pub mod Flown

@@ -1,3 +1,0 @@
-pub mod Milestone
-pub mod Setpoint
-pub mod Tick

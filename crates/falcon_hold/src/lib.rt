@@ -1,4 +1,0 @@
-// The hold point of Takeoff and Loiter.
-#![tactic(auto)]
-
-pub mod hold;

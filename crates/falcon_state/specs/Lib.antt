@@ -1,0 +1,3 @@
+pub mod Point
+pub mod Zone
+pub mod Flight

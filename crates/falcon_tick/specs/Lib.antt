@@ -1,0 +1,2 @@
+pub mod Preflight
+pub mod Tick
