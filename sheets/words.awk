@@ -5,6 +5,7 @@
 BEGIN {
     read_columns()
     split("opening tick report command points zones totals record", kind_name)
+    kind_name[10] = "opening on a raised pad"
     split("Disarmed Armed Takeoff Loiter Mission Land Rtl Terminated", mode_name)
     split("Arm RequestTakeoff RequestMission RequestLoiter RequestRtl RequestLand RequestDisarm ReachedAltitude ReachedHome Touchdown Failsafe Terminate", event_name)
     split("SensorsHealthy EstimatorConverged CalibrationPresent GeofenceLoaded BatteryOk FailsafeConfigured EstimatorInnovation GnssAgreement ParamsFromNvm GeofenceSane ThresholdsOrdered SensorsFresh EscTelemetry BatteryTakeoffMargin RangefinderPlausible CalibrationFresh RcLink GcsLink NoFailsafeLatched MotorsHealthy InsideGeofence", check_name)
@@ -19,7 +20,7 @@ function fail(text) {
 }
 
 # Reads the table: row r has the columns first[r] to last[r], how_many[r] names, which are names[r, k], and the type type[r]; of[NAME] is the column of a
-# row that has one. There must be 135 columns, one behind the other.
+# row that has one. There must be 136 columns, one behind the other.
 function read_columns(    line, cell, inside, text, n, k) {
     while ((getline line < record) == 1) {
         if (line == "| columns | name | type | meaning | an opening sets |") inside = 1
@@ -38,7 +39,7 @@ function read_columns(    line, cell, inside, text, n, k) {
         columns = last[rows]
         if (how_many[rows] == 1 && last[rows] == first[rows]) of[text[1]] = columns
     }
-    if (columns != 135) fail(record ": the table has " columns + 0 " columns and not 135")
+    if (columns != 136) fail(record ": the table has " columns + 0 " columns and not 136")
 }
 
 # The value of a float's bits.
@@ -73,10 +74,12 @@ function fields(line, n,    count, k) {
 
 function also(it_is, text) { return it_is ? ", " text : "" }
 
+function is_opening(kind) { return kind == 1 || kind == 10 }
+
 function asked(line,    n, count, text, k) {
     count = fields(line, n)
     text = kind_name[n[1]] ": "
-    if (n[1] == 1) return text "home " place(n, 2) ", fence " float(n[5]) " m, cruise " float(n[6]) " m, low " float(n[7]) " V"
+    if (is_opening(n[1])) return text "home " place(n, 2) ", fence " float(n[5]) " m, cruise " float(n[6]) " m, low " float(n[7]) " V"
     if (n[1] == 2) {
         text = text place(n, 3) ", " speed(n, 6) ", tilt " float(n[9]) also(n[16], float(n[17]) " V") (n[16] == 2 ? " " float(n[18]) " A" : "")
         return text also(n[12], "navigation compromised") also(n[13], "GNSS diverged") also(n[14], "motor failed")
@@ -171,7 +174,7 @@ function answered(a, count, tick,    text) {
     width = fields($0, a)
     understood = a[1] < 2 || a[1] > 5
     kind = understood ? substr(line, 1, 11) + 0 : 0
-    if (kind == 1 && !a[1]) time = 0
+    if (is_opening(kind) && !a[1]) time = 0
     if (kind == 2 && !a[1]) time += value(substr(line, 12, 11) + 0)
     printf "%4d  %7.3f s  %-64s  %s %s\n", NR, time, understood ? asked(line) : as_it_is(line, a[1]), a[2] == mode ? " " : "*", answered(a, width, kind == 2)
     if (width > 19) {

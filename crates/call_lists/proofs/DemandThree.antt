@@ -7,6 +7,7 @@ use mathlib.Core.List.{List, [], ◌∷◌}
 use mathlib.Core.Logic.{◌⊎◌, inl, inr, ⊎_elim, ◌↔◌, ◌≢◌}
 use mathlib.Core.Path.{◌≡◌, refl, sym, ◌∙◌, subst}
 use lib.Dec.{T, leb, leb→le}
+use lib.Ieee.{Float}
 use lib.Ieee.Fits.{and_l, and_r}
 use Rattle.std.specs.Prelude.{Option, Some, None}
 use Rattle.relay_fsm.specs.declared.Mode.{Mode}
@@ -18,55 +19,78 @@ use Rattle.relay_batt.specs.declared.battery.Battery.{Battery}
 use Rattle.relay_batt.proofs.Stays.{critical_stays, critical_shown}
 use Rattle.falcon_state.specs.declared.config.Config.{Config}
 use Rattle.falcon_state.specs.declared.tick.Tick.{Tick}
-use Rattle.falcon_guidance.specs.Geometry.{height_of}
+use Rattle.falcon_state.specs.declared.config.OpeningKind.{OpeningKind}
+use Rattle.falcon_state.specs.declared.config.OpeningKind.TheVariants.{Ground, Raised}
+use Rattle.falcon_guidance.specs.Geometry.{pad_less_of, height_of}
 use Rattle.falcon_core.specs.declared.supervisor.Supervisor.{Supervisor}
 use Rattle.falcon_core.specs.declared.supervisor.Answered.{Answered}
 use Rattle.falcon_events.specs.Failsafe.{tilted_of, runaway_enough}
 use Rattle.falcon_events.specs.Milestone.{near_ground_of}
 use Rattle.falcon_core.specs.Land.{landing_or_off_of}
-use Rattle.falcon_core.specs.Calls.{Request, opens, ticks, reports, commands, plans, legs_in, flight_after, after_of, output_of}
+use Rattle.falcon_core.specs.Calls.{Request, opens, ticks, reports, commands, plans, refusal_of, legs_in, flight_after, after_of, output_of}
+use Rattle.falcon_core.proofs.Answers.{in_sequence}
+use Rattle.falcon_core.proofs.Refused.{accepted_passed}
 use Rattle.falcon_core.proofs.Parts.{planned_mode}
 use Rattle.falcon_core.proofs.Rank.{tick_rank, report_rank}
 use Rattle.falcon_core.proofs.Phase.{phase_of, airborne_phase, tick_phase, report_keeps_phase}
 use Rattle.falcon_core.proofs.Runaway.{tick_ends}
 use Rattle.call_lists.specs.Lists.{Call, Began, Place, accepted_request, next_mode, next_battery, next_began, place_after, next_place_of, place_from, place_at_of, first_place, latch_of, calm, calm_from, tick_count, ticks_from}
-use Rattle.call_lists.specs.Demand3.{landing_ticks, tumbling_ticks, below_touchdown_height, tumbling, tumbling_for, TwoTicks, TouchdownTick, RankKept, FiftyTicks, Demand3}
+use Rattle.call_lists.specs.Demand3.{landing_ticks, tumbling_ticks, own_height, below_touchdown_height, tumbling, tumbling_for, TwoTicks, TouchdownTick, RankKept, FiftyTicks, Demand3}
 use Rattle.call_lists.proofs.CallSeen.{Seen, refused, accepts, seen}
 use Rattle.call_lists.proofs.PlaceHolds.{run, Holding, refused_mode, accepted_mode, ticked_flight, began_now, air, one_more, run_now, enough_is, tick_terminates, no_air, next_holding, place_holding, start_holding}
 
 -- ---- the rank rule
 
+-- the supervisor's height is the one that the opening measures
+own_is : (kind : OpeningKind) (home_z z : Float) → pad_less_of kind home_z z ≡ own_height kind home_z z
+unfolding pad_less_of own_height
+own_is Ground home_z z = refl
+own_is Raised home_z z = refl
+
 -- height under 0.15 m, as the tick tests it
-ground_is : (c : Config) (t : Tick) → near_ground_of (height_of c t.p) ≡ below_touchdown_height t
+ground_is : (c : Config) (t : Tick) → near_ground_of (height_of c t.p) ≡ below_touchdown_height (Some c) t
 unfolding near_ground_of height_of below_touchdown_height
-ground_is c t = refl
+ground_is c t = rw (own_is c.opening_kind c.home.z t.p.z) refl
+
+-- an accepted tick finds the configuration of the latest accepted opening
+opening_is : (p : Place) (t : Tick) → Holding p → refusal_of p.supervisor (ticks t) ≡ None → p.config ≡ Some p.supervisor.flight.config
+opening_is p t i q =
+    let s = p.supervisor in
+    i.config_is ∙ rw (in_sequence s.opened s.report_due (accepted_passed s (ticks t) q).in_sequence).0 refl
 
 rank_accepted :
-    (s : Supervisor) (r : Request)
+    (p : Place) (r : Request)
+    → Holding p
+    → refusal_of p.supervisor r ≡ None
     → T (calm (Some r))
-    → (rank_of s.flight.fsm.mode ≤ rank_of (after_of s r).flight.fsm.mode) ⊎ TouchdownTick s (Some r) (after_of s r).flight.fsm.mode
+    → let s = p.supervisor in
+    (rank_of s.flight.fsm.mode ≤ rank_of (after_of s r).flight.fsm.mode) ⊎ TouchdownTick p.config s (Some r) (after_of s r).flight.fsm.mode
 unfolding after_of flight_after
-rank_accepted s (opens o) h = absurd h
-rank_accepted s (ticks t) h =
+rank_accepted p (opens o) i q h = absurd h
+rank_accepted p (ticks t) i q h =
+    let s = p.supervisor in
+    let low : T (near_ground_of (height_of s.flight.config t.p)) → T (below_touchdown_height p.config t) = λ u. rw (opening_is p t i q) (subst T (ground_is s.flight.config t) u) in
     ⊎_elim inl
-    (λ u. inr (record { tick = t; is_tick = refl; low = subst T (ground_is s.flight.config t) u.0; disarmed = u.1; through_land = u.2 }))
+    (λ u. inr (record { tick = t; is_tick = refl; low = low u.0; disarmed = u.1; through_land = u.2 }))
     (tick_rank s.flight (legs_in s) t)
-rank_accepted s (reports failed) h = inl (report_rank s.flight failed)
-rank_accepted s (commands ev level low) h = absurd h
-rank_accepted s (plans p) h = inl (rw (planned_mode s.flight p) (le_refl (rank_of s.flight.fsm.mode)))
+rank_accepted p (reports failed) i q h = inl (report_rank p.supervisor.flight failed)
+rank_accepted p (commands ev level low) i q h = absurd h
+rank_accepted p (plans x) i q h = inl (rw (planned_mode p.supervisor.flight x) (le_refl (rank_of p.supervisor.flight.fsm.mode)))
 
 rank_seen :
-    (s : Supervisor) (m : Mode) (a : Answered) (k : Option Request)
-    → Seen s a k
-    → m ≡ s.flight.fsm.mode
+    (p : Place) (a : Answered) (k : Option Request)
+    → Seen p.supervisor a k
+    → Holding p
     → T (calm k)
-    → (rank_of m ≤ rank_of (next_mode m a)) ⊎ TouchdownTick s k (next_mode m a)
-rank_seen s m _ _ (refused n) e h = inl (rw (refused_mode s m n) (le_refl (rank_of m)))
-rank_seen s m _ _ (accepts r q) e h = rw (accepted_mode (after_of s r) m (output_of s.flight (legs_in s) r), e) (rank_accepted s r h)
+    → (rank_of p.mode ≤ rank_of (next_mode p.mode a)) ⊎ TouchdownTick p.config p.supervisor k (next_mode p.mode a)
+rank_seen p _ _ (refused n) i h = inl (rw (refused_mode p.supervisor p.mode n) (le_refl (rank_of p.mode)))
+rank_seen p _ _ (accepts r q) i h =
+    let s = p.supervisor in
+    rw (accepted_mode (after_of s r) p.mode (output_of s.flight (legs_in s) r), i.mode_is) (rank_accepted p r i q h)
 
 pub rank_rule : (p : Place) (c : Call) → Holding p → RankKept p c
 unfolding next_place_of place_after
-rank_rule p c i h = rank_seen p.supervisor p.mode _ _ (seen p.supervisor c) i.mode_is h
+rank_rule p c i h = rank_seen p _ _ (seen p.supervisor c) i h
 
 -- ---- the fifty-tick rule
 

@@ -7,8 +7,12 @@ use borrow.Author.Tests.{ltb-false}
 use lib.Dec.{ltb, lit≤}
 use lib.ListN.{length}
 use Rattle.std.specs.Prelude.{Some, None, Ok, Err, All}
+use Rattle.std.specs.Option.{option_map}
 use Rattle.std.specs.Result.{result_ok}
 use Rattle.columns.specs.Line.{InRange, line_of, over}
+use Rattle.relay_math.specs.Small.{number_at}
+use Rattle.falcon_state.specs.declared.config.Config.{Config}
+use Rattle.falcon_state.specs.Config.{opening_number}
 use Rattle.falcon_state.specs.Point.{max_waypoints}
 use Rattle.falcon_totals.specs.declared.DayTotals.{DayTotals}
 use Rattle.falcon_totals.specs.Totals.{totals_numbers}
@@ -23,9 +27,9 @@ use Rattle.falcon_core.proofs.Refused.{accepted_passed, told_keeps}
 use Rattle.falcon_record.specs.Form.{Form}
 use Rattle.falcon_record.specs.Columns.{columns_in}
 use Rattle.falcon_record.specs.From.{record_from}
-use Rattle.falcon_record.specs.Kept.{Kept, Ready}
+use Rattle.falcon_record.specs.Kept.{Kept, Ready, carried_by}
 use Rattle.falcon_record.specs.Saved.{written_form, columns_of, save_step, saved_over}
-use Rattle.falcon_record.proofs.Back.{state_back, columns_same}
+use Rattle.falcon_record.proofs.Back.{state_back, columns_same, opening_written}
 use Rattle.falcon_record.proofs.Forms.{line_back, carries}
 use Rattle.falcon_record.proofs.Saving.{record_fits}
 use Rattle.falcon_record.proofs.Reached.{after_wind_below, unopened_wind_below, totals_below}
@@ -109,9 +113,22 @@ unfolding columns_of
 record_had_back here c e q =
     let s = (place_at_of here).supervisor in
     let k = kept_place here e in
-    let back : (form : Form) → max_waypoints ≤ form.places → record_from form (columns_in form s) ≡ s = λ form h. state_back form s k (saved_ready s c q) (carries form s h k) in
+    let back : (form : Form) → max_waypoints ≤ form.places → record_from form (columns_in form s) ≡ carried_by form s = λ form h. state_back form s k (saved_ready s c q) (carries form s h k) in
     subst (ReadBack s c) (sym (saved_columns s c q))
     (record { lent = columns_lent s c q; line = line_back written_form s _ k record_fits; state = back written_form (lit≤ tt); forms = back })
+
+-- U5: "Kind 9 records which opening was used": wherever in a list a call for the state is accepted, by line or by values, the last column is the number of
+-- the latest accepted opening's kind, which the place has
+pub opening_recorded :
+    (here : List Call) (c : Call) →
+    let p = place_at_of here in
+    accepted_request p.supervisor c ≡ Some (plans saves) →
+    option_map (λ (o : Config). opening_number o.opening_kind) p.config ≡ Some (number_at (written_by p.supervisor c) 135)
+opening_recorded here c q =
+    let s = (place_at_of here).supervisor in
+    ap (option_map (λ (o : Config). opening_number o.opening_kind))
+    ((place_holding first_place here start_holding).config_is ∙ ap (λ (b : Bool). cond b (Some s.flight.config) None) (saved_ready s c q).opened)
+    ∙ ap Some (sym (ap (λ (l : List ℕ). number_at l 135) (saved_columns s c q) ∙ opening_written s))
 
 -- ---- equal columns
 

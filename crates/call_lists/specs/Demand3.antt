@@ -1,10 +1,14 @@
 -- Demand 3: the two-tick, rank and fifty-tick rules as one claim about every list of calls.
-use Rattle.std.specs.Prelude.{ℕ, zero, suc, ◌≤◌, Bool, true, false, ◌&&◌, List, [], ◌∷◌, ◌++◌, ◌⊎◌, ◌↔◌, ◌≢◌, ◌≡◌, T, Float, Option, Some}
-use Rattle.std.specs.Float.Ieee.{neg, lt}
+use Rattle.std.specs.Prelude.{ℕ, zero, suc, ◌≤◌, Bool, true, false, ◌&&◌, List, [], ◌∷◌, ◌++◌, ◌⊎◌, ◌↔◌, ◌≢◌, ◌≡◌, T, Float, Option, Some, None}
+use Rattle.std.specs.Float.{binary32}
+use Rattle.std.specs.Float.Ieee.{sub, neg, lt}
 use Rattle.relay_math.specs.Small.{f32}
 use Rattle.relay_fsm.specs.declared.Mode.{Mode}
 use Rattle.relay_fsm.specs.declared.Mode.TheVariants.{Disarmed, Terminated}
 use Rattle.relay_fsm.specs.Mode.{is_airborne_of, rank_of}
+use Rattle.falcon_state.specs.declared.config.Config.{Config}
+use Rattle.falcon_state.specs.declared.config.OpeningKind.{OpeningKind}
+use Rattle.falcon_state.specs.declared.config.OpeningKind.TheVariants.{Ground, Raised}
 use Rattle.falcon_state.specs.declared.tick.Tick.{Tick}
 use Rattle.falcon_core.specs.declared.supervisor.Supervisor.{Supervisor}
 use Rattle.falcon_core.specs.Land.{landing_or_off_of, through_land_of}
@@ -27,9 +31,16 @@ touchdown_height = f32 0x3e19_999a
 abbrev pub tumbling_tilt : Float
 tumbling_tilt = f32 0x3f86_6666
 
--- height under 0.15 m: "Height and tilt are those of the tick's own fields, compared as f32; a NaN is neither under nor above."
-unfoldable pub below_touchdown_height : Tick → Bool
-below_touchdown_height t = lt (neg t.p.z) touchdown_height
+-- the height over the pad that an opening of this kind measures at z, home being at home_z. U5: "measures height as `home[2] − p[2]`" is kind 10's
+unfoldable pub own_height : OpeningKind → Float → Float → Float
+own_height Ground home_z z = neg z
+own_height Raised home_z z = sub binary32 home_z z
+
+-- height under 0.15 m: "Height and tilt are those of the tick's own fields, compared as f32; a NaN is neither under nor above." U5: "takes the opening's own
+-- height", here that of the latest accepted opening; no tick is accepted before one
+unfoldable pub below_touchdown_height : Option Config → Tick → Bool
+below_touchdown_height (Some c) t = lt (own_height c.opening_kind c.home.z t.p.z) touchdown_height
+below_touchdown_height None t = false
 
 -- a tick that began airborne with tilt above 1.05 rad
 unfoldable pub tumbling : Began → Bool
@@ -51,11 +62,11 @@ TwoTicks here further =
     landing_ticks ≤ ticks_from here further →
     T (landing_or_off_of (place_from here further).mode)
 
--- an accepted tick with height under 0.15 m that goes from this state to Disarmed through Land
-pub record TouchdownTick (s : Supervisor) (request : Option Request) (after : Mode) : Type 0 where
+-- an accepted tick with height under 0.15 m, by the opening's configuration, that goes from this state to Disarmed through Land
+pub record TouchdownTick (opening : Option Config) (s : Supervisor) (request : Option Request) (after : Mode) : Type 0 where
   pub tick : Tick
   pub is_tick : request ≡ Some (ticks tick)
-  pub low : T (below_touchdown_height tick)
+  pub low : T (below_touchdown_height opening tick)
   pub disarmed : after ≡ Disarmed
   pub through_land : T (through_land_of s.flight (legs_in s) tick)
 
@@ -66,7 +77,7 @@ RankKept here c =
     let s = here.supervisor in
     let request = accepted_request s c in
     let after = (next_place_of here c).mode in
-    T (calm request) → (rank_of here.mode ≤ rank_of after) ⊎ TouchdownTick s request after
+    T (calm request) → (rank_of here.mode ≤ rank_of after) ⊎ TouchdownTick here.config s request after
 
 -- An accepted tick enters Terminated exactly when it and the 49 accepted ticks before it, all since the latest accepted opening, each began airborne with
 -- tilt above 1.05 rad.

@@ -9,6 +9,7 @@ use Rattle.falcon_core.specs.Answer.{numbers_of}
 use Rattle.falcon_record.specs.Form.{Form}
 use Rattle.falcon_record.specs.Columns.{columns_in}
 use Rattle.falcon_record.specs.From.{record_from}
+use Rattle.falcon_record.specs.Kept.{carried_by}
 use Rattle.falcon_record.specs.Saved.{written_form, record_room}
 use Rattle.requests.specs.ByLine.{extra_of}
 use Rattle.call_lists.specs.Lists.{Call, by_values, by_line, by_array, accepted_request, call_step, lent_after, next_place_of, answers_from, lent_from, place_at_of, FitCall}
@@ -25,12 +26,12 @@ lent_with (by_line line out) answer columns = over (line_of (numbers_of answer) 
 lent_with (by_array a) answer columns = over columns a
 
 -- the columns stand in the memory lent for writing, their line has at most 160 fields and is read as these numbers, and the state is had back from them, and
--- from the columns of every form that has a place for each point
+-- from the columns of every form that has a place for each point, with opening 1 where the form has no column for the opening's kind
 pub record ReadBack (s : Supervisor) (c : Call) (columns : List ℕ) : Type 0 where
   pub lent : lent_after s c ≡ lent_with c (call_step s c).answer columns
   pub line : read_within record_room (line_of columns) ≡ Some columns
   pub state : record_from written_form columns ≡ s
-  pub forms : (form : Form) → max_waypoints ≤ form.places → record_from form (columns_in form s) ≡ s
+  pub forms : (form : Form) → max_waypoints ≤ form.places → record_from form (columns_in form s) ≡ carried_by form s
 
 -- wherever in a list a call for the state is accepted
 abbrev pub RecordBack : Type 0

@@ -29,10 +29,12 @@ use Rattle.falcon_totals.specs.Counts.{counts_of, count_of}
 use Rattle.falcon_totals.specs.Totals.{no_totals, counted_of, totals_numbers}
 use Rattle.falcon_state.specs.Point.{point_of, origin}
 use Rattle.falcon_state.specs.Flight.{opened_of}
-use Rattle.falcon_guidance.specs.Geometry.{norm_of, distance_of, height_of}
+use Rattle.falcon_guidance.specs.Geometry.{norm_of, distance_of, pad_less_of, height_of}
 use Rattle.falcon_guidance.specs.Hold.{horiz_speed_of, entered_of, left_of, in_regime_of, held_of}
+use Rattle.falcon_guidance.specs.Setpoint.{cruise_over_of}
 use Rattle.falcon_events.specs.Failsafe.{breach_gives, breached_of, tilted_of, runaway_enough, runaway_counted, runaway_gives, runaway_of, gusty_of, wind_enough, wind_counted, wind_gives, wind_of, report_of}
 use Rattle.falcon_events.specs.Milestone.{high_of, near_home_of, near_ground_of, milestone_gives, milestone_of}
+use Rattle.falcon_state.specs.declared.config.OpeningKind.TheVariants.{Ground}
 use Rattle.falcon_tick.specs.Preflight.{geofence_sane_of, nav_rows_of, integrity_rows_of, readiness_rows_of, update_preflight_of, esc_telemetry_of}
 use Rattle.falcon_tick.specs.Tick.{before_breach, after_breach, after_runaway, after_wind, reached, after_tick, answered, tick_of}
 use Rattle.falcon_core.specs.Calls.{opens, ticks, reports, commands, plans, points, totals, shape_refusal, sequence_refusal_of, state_refusal, refusal_of, command_of, planned_of, flight_after, waypoints_after, output_of, totals_after, after_of, refused_of, accepted_of, step_of}
@@ -57,6 +59,7 @@ opening =
       required = 0;
       passed = 0;
       calibration_configured = false;
+      opening_kind = Ground;
     }))
 
 -- a tick of one second, ten metres north of home and five up
@@ -189,7 +192,7 @@ save_calls =
 abbrev breach_columns : List ℕ
 breach_columns =
     (9 ∷ 0 ∷ 0 ∷ 0 ∷ 3212836864 ∷ 1092616192 ∷ 1101529088 ∷ 6 ∷ 0 ∷ 0 ∷ 786659 ∷ 5 ∷ 0 ∷ 1019517862 ∷ [])
-    ++ (replicate 27 0 ++ ((1 ∷ 0 ∷ 0 ∷ 0 ∷ 0 ∷ 0 ∷ 0 ∷ 1 ∷ 0 ∷ 0 ∷ 3 ∷ []) ++ replicate 83 0))
+    ++ (replicate 27 0 ++ ((1 ∷ 0 ∷ 0 ∷ 0 ∷ 0 ∷ 0 ∷ 0 ∷ 1 ∷ 0 ∷ 0 ∷ 3 ∷ []) ++ (replicate 83 0 ++ (1 ∷ []))))
 
 -- the numbers answered
 abbrev save_answers : List (List ℕ)
@@ -200,6 +203,21 @@ save_answers =
     ∷ (9 ∷ 5 ∷ 0 ∷ 0 ∷ 0 ∷ 0 ∷ 0 ∷ 0 ∷ 0 ∷ 21 ∷ [])
     ∷ ((0 ∷ 5 ∷ 0 ∷ 0 ∷ 0 ∷ 0 ∷ 0 ∷ 0 ∷ 0 ∷ 21 ∷ []) ++ breach_columns)
     ∷ ((0 ∷ 5 ∷ 0 ∷ 0 ∷ 0 ∷ 0 ∷ 0 ∷ 0 ∷ 0 ∷ 21 ∷ []) ++ breach_columns)
+    ∷ []
+
+-- on a roof, with home at z -30: opened by a line of this kind, armed and taking off; a tick on the pad, one 9.9 m over it, Land, and a tick on the pad
+abbrev roof_calls : ℕ → List Call
+roof_calls kind =
+    let on_pad : Call = line (2 ∷ 0 ∷ 0 ∷ 0 ∷ 3253731328 ∷ replicate 13 0) in
+    line (kind ∷ 0 ∷ 0 ∷ 3253731328 ∷ 1120403456 ∷ 1092616192 ∷ 1101529088 ∷ 0 ∷ 0 ∷ 0 ∷ [])
+    ∷ line (4 ∷ 0 ∷ 1 ∷ 1 ∷ [])
+    ∷ line (4 ∷ 1 ∷ 1 ∷ 1 ∷ [])
+    ∷ on_pad
+    ∷ no_failure
+    ∷ line (2 ∷ 0 ∷ 0 ∷ 0 ∷ 3256850842 ∷ replicate 13 0)
+    ∷ no_failure
+    ∷ line (4 ∷ 5 ∷ 1 ∷ 1 ∷ [])
+    ∷ on_pad
     ∷ []
 
 -- the modes after each call
@@ -224,7 +242,7 @@ last_of m (n ∷ l) = last_of n l
 
 -- document 01's worked example, by line; two ticks and not one: the latch is set before takeoff, the first tick after it leads to Rtl and the second to Land;
 -- the critical battery is seen to Rtl and then to Land, with the latch set from the second flat tick on; 49 tilted ticks fly on in Takeoff, 50 end in Terminated;
--- a breach at home has three changes and one tick, which ended in Land
+-- a breach at home has three changes and one tick, which ended in Land; on a roof kind 10 climbs out and touches down, kind 1 does neither
 seen_in_lists :
     (map reply_of (answers_from first_place worked_calls) ≡ map line_of worked_answers)
     × (modes first_place (tripped ++ (no_reading ∷ no_failure ∷ no_reading ∷ [])) ≡ 0 ∷ 0 ∷ 0 ∷ 1 ∷ 2 ∷ 6 ∷ 6 ∷ 5 ∷ [])
@@ -233,9 +251,11 @@ seen_in_lists :
     × (latches first_place (flying ++ (flat ∷ no_failure ∷ flat ∷ [])) ≡ false ∷ false ∷ false ∷ false ∷ false ∷ false ∷ false ∷ true ∷ [])
     × (last_of 0 (modes first_place (flying ++ tumble 49)) ≡ 2)
     × (last_of 0 (modes first_place (flying ++ tumble 50)) ≡ 7)
+    × (modes first_place (roof_calls 10) ≡ 0 ∷ 1 ∷ 2 ∷ 2 ∷ 2 ∷ 3 ∷ 3 ∷ 5 ∷ 0 ∷ [])
+    × (modes first_place (roof_calls 1) ≡ 0 ∷ 1 ∷ 2 ∷ 3 ∷ 3 ∷ 3 ∷ 3 ∷ 5 ∷ 5 ∷ [])
     × (map reply_numbers (answers_from (place_from first_place breach_calls) totals_calls) ≡ totals_answers)
     × (counts_of (place_from first_place breach_calls).counted ≡ 0 ∷ 0 ∷ 0 ∷ 0 ∷ 0 ∷ 1 ∷ 0 ∷ 0 ∷ 3 ∷ [])
     × (map reply_numbers (answers_from (place_from first_place breach_calls) save_calls) ≡ save_answers)
-    × (saved_over (place_from first_place breach_calls).supervisor (replicate 161 7) ≡ breach_columns ++ replicate 26 7)
-unfolding event_at row_of on_of onto before fields length_ok read_within line_of in_range digits first_digit spaced field_read kind_of column columns field_of max_of clamp_of root_by whole_root_of nearest_root_of special_operands_of unlimited_precision_of to_digits rounding exponent_range_of root_of all_checks bit_of with_bit_of set_of legacy_passed_of fails_of failing_mask_of outstanding_of first_blocker_of new_battery_of heard_of update_of lost_of default_of cells_of per_cell_of for_pack_of capacity_of sanitize_of knots walk table_of ocv_soc_cell_of none_of shown_of new_estimator_of consumed_of rest_volts_of soc_of volts_only_of estimator_update_of trip_of estimator_numbers_of state_numbers_of silence_numbers_of battery_numbers_of count_of counts_of no_totals counted_of totals_numbers opened_of norm_of distance_of height_of horiz_speed_of entered_of left_of in_regime_of held_of breach_gives breached_of tilted_of runaway_enough runaway_counted runaway_gives runaway_of gusty_of wind_enough wind_counted wind_gives wind_of report_of high_of near_home_of near_ground_of milestone_gives milestone_of geofence_sane_of nav_rows_of integrity_rows_of readiness_rows_of update_preflight_of esc_telemetry_of before_breach after_breach after_runaway after_wind reached after_tick answered tick_of shape_refusal sequence_refusal_of state_refusal refusal_of command_of planned_of flight_after waypoints_after output_of totals_after after_of refused_of accepted_of step_of answer_of numbers_of columns_of save_step saved_over config_columns check_columns hold_columns count_columns use_columns scalar_columns placed place_in point_columns points_columns zone_columns zones_columns later_columns columns_in need_fields_of need_of buffered_line_asks line_step extra_of reply_numbers reply_of opening_from_of opening_line_of reading_from_of battery_ok_of tick_from_of tick_ok_of tick_line_of command_line_of alone_line_of kind_at numbers_ask limit_fields_of line_numbers line_asks call_step accepted_request place_after next_place_of place_from answers_from first_place add sub mul div neg lt eq le ne of_bits of_int round units is_nan size to_bits ones
-seen_in_lists = (refl, refl, refl, refl, refl, refl, refl, refl, refl, refl, refl)
+    × (saved_over (place_from first_place breach_calls).supervisor (replicate 161 7) ≡ breach_columns ++ replicate 25 7)
+unfolding event_at row_of on_of onto before fields length_ok read_within line_of in_range digits first_digit spaced field_read kind_of column columns field_of max_of clamp_of root_by whole_root_of nearest_root_of special_operands_of unlimited_precision_of to_digits rounding exponent_range_of root_of all_checks bit_of with_bit_of set_of legacy_passed_of fails_of failing_mask_of outstanding_of first_blocker_of new_battery_of heard_of update_of lost_of default_of cells_of per_cell_of for_pack_of capacity_of sanitize_of knots walk table_of ocv_soc_cell_of none_of shown_of new_estimator_of consumed_of rest_volts_of soc_of volts_only_of estimator_update_of trip_of estimator_numbers_of state_numbers_of silence_numbers_of battery_numbers_of count_of counts_of no_totals counted_of totals_numbers opened_of norm_of distance_of pad_less_of height_of horiz_speed_of cruise_over_of entered_of left_of in_regime_of held_of breach_gives breached_of tilted_of runaway_enough runaway_counted runaway_gives runaway_of gusty_of wind_enough wind_counted wind_gives wind_of report_of high_of near_home_of near_ground_of milestone_gives milestone_of geofence_sane_of nav_rows_of integrity_rows_of readiness_rows_of update_preflight_of esc_telemetry_of before_breach after_breach after_runaway after_wind reached after_tick answered tick_of shape_refusal sequence_refusal_of state_refusal refusal_of command_of planned_of flight_after waypoints_after output_of totals_after after_of refused_of accepted_of step_of answer_of numbers_of columns_of save_step saved_over config_columns check_columns hold_columns count_columns use_columns scalar_columns placed place_in point_columns points_columns zone_columns zones_columns later_columns columns_in need_fields_of need_of buffered_line_asks line_step extra_of reply_numbers reply_of opening_from_of opening_line_of reading_from_of battery_ok_of tick_from_of tick_ok_of tick_line_of command_line_of alone_line_of kind_at numbers_ask limit_fields_of line_numbers line_asks call_step accepted_request place_after next_place_of place_from answers_from first_place add sub mul div neg lt eq le ne of_bits of_int round units is_nan size to_bits ones
+seen_in_lists = (refl, refl, refl, refl, refl, refl, refl, refl, refl, refl, refl, refl, refl)

@@ -17,6 +17,7 @@ use Rattle.relay_preflight.specs.Check.{check_number}
 use Rattle.relay_preflight.specs.Table.{new_table_of}
 use Rattle.relay_preflight.specs.Verdict.{first_blocker_of, blocker_number}
 use Rattle.falcon_state.specs.declared.config.Config.{Config}
+use Rattle.falcon_state.specs.declared.config.OpeningKind.TheVariants.{Ground}
 use Rattle.falcon_state.specs.Point.{point_of, origin}
 use Rattle.falcon_guidance.specs.Mission.{waypoint_admissible_of}
 
@@ -54,6 +55,7 @@ home_and_fence =
       cruise_alt = f32_zero;
       low_batt_v = f32_zero;
       calibration_configured = false;
+      opening_kind = Ground;
     }
 
 -- root 4.0 is 2.0; root -0 is -0; root -1.0 is NaN; `sanitize`(NaN, 0, 60, 0) is 0; curve 3.50 is 0; Takeoff with RequestLand stays;

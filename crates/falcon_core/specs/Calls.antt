@@ -8,6 +8,7 @@ use Rattle.relay_fsm.specs.declared.Gates.{Gates}
 use Rattle.relay_fsm.specs.Fsm.{on_of}
 use Rattle.relay_preflight.specs.Table.{mask_limit}
 use Rattle.relay_preflight.specs.Verdict.{first_blocker_of}
+use Rattle.falcon_state.specs.declared.config.OpeningKind.TheVariants.{Ground}
 use Rattle.falcon_state.specs.declared.flight.Opening.{Opening}
 use Rattle.falcon_state.specs.declared.tick.Tick.{Tick}
 use Rattle.falcon_state.specs.declared.point.Point.{Point}
@@ -42,6 +43,7 @@ unopened =
       required = 0;
       passed = 0;
       calibration_configured = false;
+      opening_kind = Ground;
     } in
     record { flight = opened_of zeros; waypoints = no_points_of; opened = false; report_due = false; totals = no_totals }
 

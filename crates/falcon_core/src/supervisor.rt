@@ -11,7 +11,7 @@ use crate::refusal::Refusal;
 use falcon_guidance::legs::legs;
 use falcon_guidance::mission::{loaded, loaded_points, no_points, tried_admissible};
 use falcon_guidance::zones::loaded_zones;
-use falcon_state::{FlightSupervisor, Opening, Point, Tick, Zone};
+use falcon_state::{FlightSupervisor, Opening, OpeningKind, Point, Tick, Zone};
 use falcon_totals::DayTotals;
 use relay_fsm::Event;
 use relay_preflight::CheckTable;
@@ -98,6 +98,7 @@ impl Supervisor {
                 required: 0,
                 passed: 0,
                 calibration_configured: false,
+                opening_kind: OpeningKind::Ground,
             }),
             waypoints: no_points(),
             opened: false,

@@ -1,3 +1,4 @@
 pub mod Waypoints
 pub mod LegPlaces
 pub mod HoldPoint
+pub mod PadHeight

@@ -1,6 +1,6 @@
 -- The landing flag, the setpoint of each mode, and the modes that command motors off.
 use Rattle.std.specs.Prelude.{Bool, cond, ◌&&◌, ◌||◌, Float}
-use Rattle.std.specs.Float.Ieee.{neg, lt}
+use Rattle.std.specs.Float.Ieee.{lt}
 use Rattle.relay_math.specs.Small.{f32}
 use Rattle.relay_fsm.specs.declared.Mode.{Mode}
 use Rattle.relay_fsm.specs.declared.Mode.TheVariants.{Disarmed, Armed, Takeoff, Loiter, Mission, Land, Rtl, Terminated}
@@ -10,6 +10,7 @@ use Rattle.falcon_state.specs.declared.point.Horizontal.{Horizontal}
 use Rattle.falcon_state.specs.declared.config.Config.{Config}
 use Rattle.falcon_state.specs.declared.tick.Tick.{Tick}
 use Rattle.falcon_state.specs.Point.{point_of}
+use Rattle.falcon_guidance.specs.Geometry.{pad_less_of}
 use Rattle.falcon_guidance.specs.Hold.{horiz_speed_of}
 
 -- the limits 0.4 and 0.5 of the landing flag
@@ -23,9 +24,9 @@ landing_radius = f32 0x3f00_0000
 abbrev pub landing_of : Mode → Float → Tick → Bool
 landing_of m dist_home t = is_mode m Land && (t.failed_motor || lt (horiz_speed_of t) landing_speed && lt dist_home landing_radius)
 
--- a point at the cruise height: `-self.cruise_alt`
-abbrev pub cruise_over_of : Config → Float → Float → Point
-cruise_over_of c x y = point_of x y (neg c.cruise_alt)
+-- a point at the cruise height: `-self.cruise_alt`, and U5: "at `home[2]` less the cruise height"
+unfoldable pub cruise_over_of : Config → Float → Float → Point
+cruise_over_of c x y = point_of x y (pad_less_of c.opening_kind c.home.z c.cruise_alt)
 
 -- `mode → setpoint`, from the active leg's waypoint and the hold point; in the modes that command motors off it is moot
 abbrev pub setpoint_of : Mode → Config → Point → Horizontal → Tick → Point

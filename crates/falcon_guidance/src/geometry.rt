@@ -1,8 +1,8 @@
-// Distances and the height.
+// Distances and heights.
 ghost use Rattle.std.specs.Prelude.{◌≡◌};
-ghost use Rattle.falcon_guidance.specs.Geometry.{norm_of, distance_of, distance3_of, height_of};
+ghost use Rattle.falcon_guidance.specs.Geometry.{norm_of, distance_of, distance3_of, pad_less_of, height_of};
 
-use falcon_state::{Config, Point};
+use falcon_state::{Config, OpeningKind, Point};
 use relay_math::sqrtf;
 
 // The norm of a horizontal vector.
@@ -32,10 +32,21 @@ pub fn distance3(p: Point, q: Point) -> f32
     sqrtf(dx * dx + dy * dy + dz * dz)
 }
 
-// The height of a position.
+// The pad's z less x. By kind 1 the pad is at height zero: that is -x, as in the Rust, and not 0 - x, which is another zero where x is 0.
+#[tactic(auto, unfolding(crate::specs::Geometry::pad_less_of))]
+pub fn pad_less(c: Config, x: f32) -> f32
+    ensures { result ≡ pad_less_of c.opening_kind c.home.z x }
+{
+    match c.opening_kind {
+        OpeningKind::Ground => -x,
+        OpeningKind::Raised => c.home.z - x,
+    }
+}
+
+// The height of a position over the pad.
 #[tactic(auto, unfolding(crate::specs::Geometry::height_of))]
 pub fn height(c: Config, p: Point) -> f32
     ensures { result ≡ height_of c p }
 {
-    -p.z
+    pad_less(c, p.z)
 }

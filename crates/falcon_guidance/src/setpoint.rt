@@ -2,6 +2,7 @@
 ghost use Rattle.std.specs.Prelude.{◌≡◌};
 ghost use Rattle.falcon_guidance.specs.Setpoint.{landing_of, cruise_over_of, setpoint_of, motors_off_of};
 
+use crate::geometry::pad_less;
 use crate::hold::horiz_speed;
 use falcon_state::{Config, Horizontal, Point, Tick};
 use relay_fsm::Mode;
@@ -16,14 +17,15 @@ pub fn landing(mode: Mode, dist_home: f32, t: Tick) -> bool
             || (horiz_speed(t) < Tick::LANDING_SPEED) & (dist_home < Tick::LANDING_RADIUS))
 }
 
-// A point at the cruise height.
+// A point at the cruise height over the pad.
+#[tactic(auto, unfolding(crate::specs::Setpoint::cruise_over_of))]
 fn cruise_over(c: Config, x: f32, y: f32) -> Point
     ensures { result ≡ cruise_over_of c x y }
 {
     Point {
         x,
         y,
-        z: -c.cruise_alt,
+        z: pad_less(c, c.cruise_alt),
     }
 }
 

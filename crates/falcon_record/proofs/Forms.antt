@@ -1,15 +1,19 @@
 -- The field counts tell the forms apart, and the bytes of a written line are read as its columns.
 use Prim.Native.Nat.{ℕ, ◌≤◌}
+use mathlib.Core.List.{List}
 use native.Mathlib.Omega.{arith}
 use Rattle.std.specs.Prelude.{Some}
-use mathlib.Core.Path.{◌≡◌, refl}
+use mathlib.Core.Path.{◌≡◌, refl, sym, ap, ◌∙◌}
 use Rattle.columns.specs.Line.{read_within, line_of}
 use Rattle.columns.proofs.LineAgain.{line_again}
+use Rattle.falcon_state.specs.declared.config.OpeningKind.TheVariants.{Ground}
 use Rattle.falcon_state.specs.Point.{max_waypoints}
 use Rattle.falcon_core.specs.declared.supervisor.Supervisor.{Supervisor}
 use Rattle.falcon_record.specs.Form.{Form, zone_width, zones_at, later_at, fields_of, first_form, opening_form, long_form, topped_form, target_form, form_of}
 use Rattle.falcon_record.specs.Columns.{columns_in}
+use Rattle.falcon_record.specs.From.{record_from}
 use Rattle.falcon_record.specs.Kept.{Kept, Carries}
+use Rattle.falcon_record.proofs.Back.{older_ground}
 use Rattle.falcon_record.proofs.Lengths.{length_columns}
 use Rattle.falcon_record.proofs.Range.{columns_in_range}
 
@@ -32,6 +36,13 @@ pub form_told :
     × (form_of (fields_of target_form) ≡ Some target_form)
 unfolding form_of fields_of later_at zones_at zone_width
 form_told = (refl, refl, refl, refl, refl)
+
+-- U6: "A line from before U5 reads as opening 1", by its 135 fields, whatever its numbers are
+pub older_told : (form : Form) (ns : List ℕ) → form_of 135 ≡ Some form → (record_from form ns).flight.config.opening_kind ≡ Ground
+older_told form ns e =
+    let one : Some form ≡ Some first_form = sym e ∙ ap form_of (sym fields_are.0) ∙ form_told.0 in
+    let first : form ≡ first_form = cc in
+    older_ground form ns (ap (λ (f : Form). f.has_opening) first)
 
 -- the bytes of a written line are read as its columns, by any limit from its field count on
 pub line_back : (form : Form) (s : Supervisor) (limit : ℕ) → Kept s → fields_of form ≤ limit → read_within limit (line_of (columns_in form s)) ≡ Some (columns_in form s)

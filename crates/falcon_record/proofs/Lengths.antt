@@ -3,10 +3,11 @@ use Prim.Native.Nat.{ℕ, ◌+◌, ◌*◌}
 use native.Mathlib.Omega.{arith}
 use mathlib.Core.Bool.{Bool, true, false, cond}
 use mathlib.Core.Path.{◌≡◌, refl, ◌∙◌}
-use mathlib.Core.List.{List, [], ◌∷◌, ◌++◌}
-use lib.ListN.{length, replicate, length-append}
+use mathlib.Core.List.{List, [], ◌++◌}
+use lib.ListN.{length, length-append}
 use Rattle.falcon_state.specs.declared.point.Point.{Point}
 use Rattle.falcon_state.specs.declared.zone.Zone.{Zone}
+use Rattle.falcon_state.specs.declared.config.Config.{Config}
 use Rattle.relay_batt.specs.Numbers.{estimator_numbers_of, state_numbers_of, silence_numbers_of, battery_numbers_of}
 use Rattle.falcon_state.specs.declared.zone.Zones.{Zones}
 use Rattle.falcon_state.specs.Point.{point_numbers_of}
@@ -47,18 +48,24 @@ length_cond : (b : Bool) (l : List ℕ) → length (cond b l []) ≡ cond b (len
 length_cond true l = refl
 length_cond false l = refl
 
-pub length_later : (form : Form) → length (later_columns form) ≡ cond form.has_opening 1 0 + cond form.has_target target_numbers 0
+pub length_later : (form : Form) (c : Config) → length (later_columns form c) ≡ cond form.has_opening 1 0 + cond form.has_target target_numbers 0
 unfolding later_columns
-length_later form =
-    simp (length-append, length_cond form.has_opening (1 ∷ []), length_cond form.has_target (replicate target_numbers 0))
+length_later form c = simp (length-append, length_cond)
 
 -- the columns before the first zone
 pub length_before : (form : Form) (s : Supervisor) → length (scalar_columns s ++ points_columns form s) ≡ zones_at form
 unfolding zones_at
 length_before form s = length-append (scalar_columns s) (points_columns form s) ∙ simp (length_scalars s, length_points form s)
 
+-- the columns before the later ones
+pub length_before_later : (form : Form) (s : Supervisor) → length ((scalar_columns s ++ points_columns form s) ++ zones_columns form s.flight.zones) ≡ later_at form
+unfolding later_at
+length_before_later form s =
+    length-append (scalar_columns s ++ points_columns form s) (zones_columns form s.flight.zones)
+    ∙ simp (length_before form s, length_zones form s.flight.zones)
+
 -- a line has the fields of its form
 pub length_columns : (form : Form) (s : Supervisor) → length (columns_in form s) ≡ fields_of form
 unfolding columns_in fields_of later_at zones_at
 length_columns form s =
-    simp (length-append, length_scalars s, length_points form s, length_zones form s.flight.zones, length_later form) (omega arith)
+    simp (length-append, length_scalars s, length_points form s, length_zones form s.flight.zones, length_later form s.flight.config) (omega arith)

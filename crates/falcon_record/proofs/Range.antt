@@ -19,6 +19,9 @@ use Rattle.relay_batt.specs.declared.estimator.BatteryEstimator.{BatteryEstimato
 use Rattle.falcon_state.specs.declared.point.Point.{Point}
 use Rattle.falcon_state.specs.declared.zone.Zone.{Zone}
 use Rattle.falcon_state.specs.declared.config.Config.{Config}
+use Rattle.falcon_state.specs.declared.config.OpeningKind.{OpeningKind}
+use Rattle.falcon_state.specs.declared.config.OpeningKind.TheVariants.{Ground, Raised}
+use Rattle.falcon_state.specs.Config.{opening_number}
 use Rattle.falcon_state.specs.declared.hold.Hold.{Hold}
 use Rattle.falcon_state.specs.Point.{origin, nowhere}
 use Rattle.falcon_state.specs.Zone.{no_zone, no_place, max_keepout_zones}
@@ -132,10 +135,14 @@ zones_in form f ps k =
     zone_in form.has_tops _ _ (cond_both (ltb i count) no_top 0 (λ n. n < 2 ^ 32) (λ e. lit< tt) (λ e. lit< tt))
     (place_holds FitZone no_place no_zone f.zones.zones count i k.zones no_zone_fits))
 
-later_in : (form : Form) → InRange (later_columns form)
+opening_below : (kind : OpeningKind) → opening_number kind < 2 ^ 32
+opening_below Ground = lit< tt
+opening_below Raised = lit< tt
+
+later_in : (form : Form) (c : Config) → InRange (later_columns form c)
 unfolding later_columns
-later_in form =
-    in_append (cond form.has_opening (1 ∷ []) []) _ (in_cond form.has_opening (1 ∷ []) (lit< tt, tt))
+later_in form c =
+    in_append _ _ (in_cond form.has_opening _ (search opening_below depth 16))
     (in_cond form.has_target (replicate target_numbers 0) (search (lit<) depth 16))
 
 -- every column of a kept state is below 2^32
@@ -144,4 +151,4 @@ unfolding columns_in
 columns_in_range form s k =
     in_append (scalar_columns s) (place_columns form s) (scalars_in s k)
     (in_append (points_columns form s) _ (points_in form s k.fit)
-    (in_append (zones_columns form s.flight.zones) _ (zones_in form s.flight s.waypoints k.fit) (later_in form)))
+    (in_append (zones_columns form s.flight.zones) _ (zones_in form s.flight s.waypoints k.fit) (later_in form s.flight.config)))

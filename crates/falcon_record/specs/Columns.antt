@@ -8,6 +8,7 @@ use Rattle.falcon_state.specs.declared.zone.Zone.{Zone}
 use Rattle.falcon_state.specs.declared.config.Config.{Config}
 use Rattle.falcon_state.specs.declared.zone.Zones.{Zones}
 use Rattle.falcon_state.specs.declared.hold.Hold.{Hold}
+use Rattle.falcon_state.specs.Config.{opening_number}
 use Rattle.falcon_state.specs.Point.{origin, nowhere}
 use Rattle.falcon_state.specs.Zone.{no_zone, no_place, max_keepout_zones}
 use Rattle.falcon_state.specs.declared.flight.FlightSupervisor.{FlightSupervisor}
@@ -84,13 +85,13 @@ zones_columns form zs =
     (λ i. zone_columns form.has_tops (cond (ltb i zs.zone_count) no_top 0) (place_in no_place no_zone zs.zones zs.zone_count i))
     max_keepout_zones
 
--- opening 1, the only one there is, and no target
-unfoldable pub later_columns : Form → List ℕ
-later_columns form = cond form.has_opening (1 ∷ []) [] ++ cond form.has_target (replicate target_numbers 0) []
+-- the opening's kind, U5: "Kind 9 records which opening was used", and no target
+unfoldable pub later_columns : Form → Config → List ℕ
+later_columns form c = cond form.has_opening (opening_number c.opening_kind ∷ []) [] ++ cond form.has_target (replicate target_numbers 0) []
 
 -- the columns from the first point on
 abbrev pub place_columns : Form → Supervisor → List ℕ
-place_columns form s = points_columns form s ++ (zones_columns form s.flight.zones ++ later_columns form)
+place_columns form s = points_columns form s ++ (zones_columns form s.flight.zones ++ later_columns form s.flight.config)
 
 -- U2: "write its state as the columns of a line of kind 9"
 unfoldable pub columns_in : Form → Supervisor → List ℕ

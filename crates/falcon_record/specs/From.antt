@@ -1,5 +1,5 @@
 -- The state that the columns of a line of kind 9 carry: column k of docs/RECORD.md is number k - 1 here.
-use Rattle.std.specs.Prelude.{ℕ, ◌+◌, ◌*◌, true, false, List, replicate}
+use Rattle.std.specs.Prelude.{ℕ, ◌+◌, ◌*◌, true, false, cond, List, replicate}
 use Rattle.relay_math.specs.Small.{number_at, float_at, flag_at}
 use Rattle.relay_fsm.specs.Mode.{mode_or_disarmed}
 use Rattle.relay_batt.specs.Config.{for_pack_of}
@@ -8,6 +8,9 @@ use Rattle.relay_batt.specs.Numbers.{battery_by}
 use Rattle.falcon_state.specs.declared.point.Point.{Point}
 use Rattle.falcon_state.specs.declared.zone.Zone.{Zone}
 use Rattle.falcon_state.specs.declared.config.Config.{Config}
+use Rattle.falcon_state.specs.declared.config.OpeningKind.{OpeningKind}
+use Rattle.falcon_state.specs.declared.config.OpeningKind.TheVariants.{Ground}
+use Rattle.falcon_state.specs.Config.{opening_or_ground}
 use Rattle.falcon_state.specs.declared.zone.Zones.{Zones}
 use Rattle.falcon_state.specs.declared.hold.Hold.{Hold}
 use Rattle.falcon_state.specs.Point.{point_of, origin, point_numbers_of, max_waypoints}
@@ -16,20 +19,25 @@ use Rattle.falcon_state.specs.declared.flight.FlightSupervisor.{FlightSupervisor
 use Rattle.falcon_guidance.specs.Lent.{filled_of}
 use Rattle.falcon_totals.specs.declared.DayTotals.{DayTotals}
 use Rattle.falcon_core.specs.declared.supervisor.Supervisor.{Supervisor}
-use Rattle.falcon_record.specs.Form.{Form, points_at, zones_at, zone_width}
+use Rattle.falcon_record.specs.Form.{Form, points_at, zones_at, zone_width, later_at}
 
 -- the point whose first number is number k
 abbrev pub point_from_of : List ℕ → ℕ → Point
 point_from_of ns k = point_of (float_at ns k) (float_at ns (k + 1)) (float_at ns (k + 2))
 
-unfoldable pub config_from_of : List ℕ → Config
-config_from_of ns =
+-- U6: "A line from before U5 reads as opening 1."
+unfoldable pub opening_kind_from : Form → List ℕ → OpeningKind
+opening_kind_from form ns = cond form.has_opening (opening_or_ground (number_at ns (later_at form))) Ground
+
+unfoldable pub config_from_of : Form → List ℕ → Config
+config_from_of form ns =
     record {
       home = point_from_of ns 1;
       fence_radius = float_at ns 4;
       cruise_alt = float_at ns 5;
       low_batt_v = float_at ns 6;
       calibration_configured = flag_at ns 8;
+      opening_kind = opening_kind_from form ns;
     }
 
 -- numbers 12 to 32; the pack is the one that the opening volts give for so many cells
@@ -78,7 +86,7 @@ zones_from form ns =
 unfoldable pub flight_from : Form → List ℕ → FlightSupervisor
 flight_from form ns =
     record {
-      config = config_from_of ns;
+      config = config_from_of form ns;
       fsm = record { mode = mode_or_disarmed (number_at ns 11) };
       battery = battery_from_of ns;
       mission = record { wp_count = number_at ns 52; wp_index = number_at ns 53 };

@@ -5,12 +5,12 @@ use Rattle.falcon_core.specs.declared.supervisor.Supervisor.{Supervisor}
 use Rattle.falcon_core.specs.declared.supervisor.Answered.{Answered}
 use Rattle.falcon_core.specs.Calls.{plans, saves, refused_of, step_of}
 use Rattle.falcon_core.specs.declared.refusal.Refusal.TheVariants.{ShortBuffer}
-use Rattle.falcon_record.specs.Form.{Form, first_form, fields_of}
+use Rattle.falcon_record.specs.Form.{Form, opening_form, fields_of}
 use Rattle.falcon_record.specs.Columns.{columns_in}
 
 -- the form that is written
 abbrev pub written_form : Form
-written_form = first_form
+written_form = opening_form
 
 -- U2: "the columns of a line of kind 9", as they are written
 unfoldable pub columns_of : Supervisor → List ℕ

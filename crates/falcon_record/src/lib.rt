@@ -6,8 +6,8 @@ ghost use Rattle.falcon_core.specs.SoundState.{first_of};
 ghost use Rattle.relay_batt.specs.Numbers.{battery_numbers_of};
 ghost use Rattle.falcon_totals.specs.Totals.{totals_numbers};
 ghost use Rattle.falcon_record.specs.Columns.{record_kind, config_columns, check_columns, hold_columns, count_columns, use_columns};
-ghost use Rattle.falcon_record.specs.Columns.{scalar_columns, place_in, point_columns, zone_columns};
-ghost use Rattle.falcon_record.specs.Saved.{columns_of, save_step, saved_over};
+ghost use Rattle.falcon_record.specs.Columns.{scalar_columns, place_in, point_columns, zone_columns, place_columns};
+ghost use Rattle.falcon_record.specs.Saved.{written_form, columns_of, save_step, saved_over};
 
 use columns::line::put_numbers;
 use falcon_core::refusal::Refusal;
@@ -30,13 +30,17 @@ const FLOWN: usize = 22;
 
 const SCALARS: usize = OPENING + BATTERY + FLOWN;
 
-// Those of the points and those of the zones.
+// Those of the points and those of the zones, and behind them one for the opening's kind.
 const POINTS: usize = Point::NUMBERS * Point::MAX_WAYPOINTS;
 
 const ZONES: usize = Zone::NUMBERS * Zone::MAX_KEEPOUT_ZONES;
 
+const LATER: usize = 1;
+
+const PLACES: usize = POINTS + ZONES + LATER;
+
 // The columns of a record. Each part is a named function and no From, which would not say which part.
-pub const RECORD_FIELDS: usize = SCALARS + POINTS + ZONES;
+pub const RECORD_FIELDS: usize = SCALARS + PLACES;
 
 // The fields that a line of kind 9 may have: a buffer or an array for a record has room for so many.
 pub const RECORD_ROOM: usize = 160;
@@ -203,18 +207,28 @@ fn rows<T: Recorded<W>, const W: usize, const N: usize>(
     rows
 }
 
-// The state as the columns of a line of kind 9.
-#[tactic(auto, using(crate::proofs::Saving::columns_parts))]
-pub fn record_columns(s: Supervisor) -> [u32; RECORD_FIELDS]
-    ensures { result ≡ columns_of s }
+// The columns from the first point on: the points, the zones and the opening's kind.
+#[tactic(auto, using(crate::proofs::Saving::places_parts), unfolding(crate::specs::Columns::later_columns))]
+fn place_numbers(s: Supervisor) -> [u32; PLACES]
+    ensures { result ≡ place_columns written_form s }
 {
     let points = rows(&s.waypoints, s.flight.mission.wp_count);
     let zones = rows(&s.flight.zones.zones, s.flight.zones.zone_count);
     joined(
-        &scalar_numbers(s),
         points.as_flattened(),
         zones.as_flattened(),
+        &[u32::from(s.flight.config.opening_kind)],
     )
+}
+
+// The state as the columns of a line of kind 9.
+pub fn record_columns(s: Supervisor) -> [u32; RECORD_FIELDS]
+    ensures { result ≡ columns_of s }
+{
+    let mut numbers = [0u32; RECORD_FIELDS];
+    put_numbers(&mut numbers, 0, &scalar_numbers(s));
+    put_numbers(&mut numbers, SCALARS, &place_numbers(s));
+    numbers
 }
 
 // The state by values: the array takes the columns. Under 160 places nothing is put and the refusal is 9.

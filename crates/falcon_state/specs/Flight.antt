@@ -20,6 +20,7 @@ opened_of o =
             cruise_alt = o.cruise_alt;
             low_batt_v = o.low_batt_v;
             calibration_configured = o.calibration_configured;
+            opening_kind = o.opening_kind;
           };
       fsm = record { mode = Disarmed };
       battery = new_battery_of (for_opening_volts_of o.low_batt_v);

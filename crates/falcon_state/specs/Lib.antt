@@ -1,3 +1,4 @@
 pub mod Point
 pub mod Zone
+pub mod Config
 pub mod Flight

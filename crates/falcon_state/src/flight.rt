@@ -2,7 +2,7 @@
 ghost use Rattle.std.specs.Prelude.{◌≡◌};
 ghost use Rattle.falcon_state.specs.Flight.{opened_of};
 
-use crate::config::Config;
+use crate::config::{Config, OpeningKind};
 use crate::hold::Hold;
 use crate::mission::Mission;
 use crate::point::{Horizontal, Point};
@@ -43,6 +43,7 @@ pub struct Opening {
     pub required: u32,
     pub passed: u32,
     pub calibration_configured: bool,
+    pub opening_kind: OpeningKind,
 }
 
 impl FlightSupervisor {
@@ -58,6 +59,7 @@ impl FlightSupervisor {
                 cruise_alt: o.cruise_alt,
                 low_batt_v: o.low_batt_v,
                 calibration_configured: o.calibration_configured,
+                opening_kind: o.opening_kind,
             },
             fsm: FlightFsm::new(),
             battery: Battery::new(BattConfig::for_opening_volts(o.low_batt_v)),

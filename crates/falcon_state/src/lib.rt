@@ -10,7 +10,7 @@ pub mod point;
 pub mod tick;
 pub mod zone;
 
-pub use config::Config;
+pub use config::{Config, OpeningKind};
 pub use flight::{Counts, FlightSupervisor, Opening};
 pub use hold::Hold;
 pub use mission::{Legs, Mission};

@@ -12,3 +12,4 @@ pub mod Small
 pub mod Special
 pub mod Squares
 pub mod WholeRoot
+pub mod Difference

@@ -93,7 +93,7 @@ unfolding output_of extra_of totals_numbers
 numbers_fit ns =
     let need = need_fields_of (Some (number_at ns 0)) in
     let least = need_least (Some (number_at ns 0)) in
-    numbers_ask_keeps (AnswerFits need) (λ e. refused_fit need e least) ns (ten_fit need _ least (λ s. refl)) (ten_fit need _ least (λ s. refl)) (ten_fit need _ least (λ s. refl))
+    numbers_ask_keeps (AnswerFits need) (λ e. refused_fit need e least) ns (λ kind. ten_fit need _ least (λ s. refl)) (ten_fit need _ least (λ s. refl)) (ten_fit need _ least (λ s. refl))
     (λ ev. ten_fit need _ least (λ s. refl))
     (ten_fit need _ least (λ s. refl))
     (ten_fit need _ least (λ s. refl))

@@ -10,6 +10,9 @@ use lib.ListN.{length}
 use Rattle.std.specs.Prelude.{Option, Some, None, Ok, Err}
 use Rattle.relay_fsm.specs.declared.Event.{Event}
 use Rattle.relay_fsm.specs.Event.{event_at}
+use Rattle.falcon_state.specs.declared.config.OpeningKind.{OpeningKind}
+use Rattle.falcon_state.specs.declared.config.OpeningKind.TheVariants.{Ground, Raised}
+use Rattle.falcon_state.specs.Config.{opening_number}
 use Rattle.falcon_state.specs.Point.{point_numbers_of}
 use Rattle.falcon_state.specs.Zone.{zone_numbers_of}
 use Rattle.falcon_core.specs.declared.refusal.Refusal.{Refusal}
@@ -35,7 +38,7 @@ module _ (P : Asked → Type 0) (refused : (e : Refusal) → P (Err e)) (ns : Li
   alone_keeps k h = cond_both (eqb (length ns) 1) _ _ P (λ e. h) (λ e. refused WrongCount)
 
   pub numbers_ask_keeps :
-      P (Ok (opens (opening_from_of ns))) →
+      ((kind : OpeningKind) → P (Ok (opens (opening_from_of kind ns)))) →
       P (Ok (ticks (tick_from_of ns))) →
       P (Ok (reports (flag_at ns 1))) →
       ((ev : Event) → P (Ok (commands ev (flag_at ns 2) (flag_at ns 3)))) →
@@ -48,11 +51,12 @@ module _ (P : Asked → Type 0) (refused : (e : Refusal) → P (Err e)) (ns : Li
   numbers_ask_keeps o t r c p z d v =
       let n = number_at ns 0 in
       let Keeps : Option Kind → Type 0 = λ k. P (kind_line_of k ns) in
-      cond_both (eqb n 1) _ _ Keeps (λ e. fielded_keeps 10 (is_flag_of ns 9) _ o)
+      cond_both (eqb n (opening_number Ground)) _ _ Keeps (λ e. fielded_keeps 10 (is_flag_of ns 9) _ (o Ground))
       (λ e. cond_both (eqb n 2) _ _ Keeps (λ e. fielded_keeps 18 (tick_ok_of ns) _ t)
       (λ e. cond_both (eqb n 3) _ _ Keeps (λ e. fielded_keeps 2 (is_flag_of ns 1) _ r)
       (λ e. cond_both (eqb n 4) _ _ Keeps (λ e. fielded_keeps 4 (is_flag_of ns 2 && is_flag_of ns 3) _ (command_keeps (event_at (number_at ns 1)) c))
       (λ e. cond_both (eqb n 5) _ _ Keeps (λ e. list_keeps point_numbers_of points p)
       (λ e. cond_both (eqb n 6) _ _ Keeps (λ e. list_keeps zone_numbers_of zones z)
       (λ e. cond_both (eqb n totals_kind) _ _ Keeps (λ e. alone_keeps _ (d (eqb-true n totals_kind e)))
-      (λ e. cond_both (eqb n saves_kind) _ _ Keeps (λ e. alone_keeps _ (v (eqb-true n saves_kind e))) (λ e. refused UnknownKind))))))))
+      (λ e. cond_both (eqb n saves_kind) _ _ Keeps (λ e. alone_keeps _ (v (eqb-true n saves_kind e)))
+      (λ e. cond_both (eqb n (opening_number Raised)) _ _ Keeps (λ e. fielded_keeps 10 (is_flag_of ns 9) _ (o Raised)) (λ e. refused UnknownKind)))))))))

@@ -10,6 +10,7 @@ use Rattle.std.specs.Prelude.{Option, Some, None, Ok, Err}
 use Rattle.std.proofs.lemmas.Bool.{cond_both}
 use Rattle.relay_batt.specs.Fits.{Fit, FitReading}
 use Rattle.falcon_core.specs.SoundState.{FitPoint, FitOpening, FitTick, FitRequest}
+use Rattle.falcon_state.specs.declared.config.OpeningKind.{OpeningKind}
 use Rattle.relay_math.specs.Small.{number_at}
 use Rattle.falcon_record.specs.From.{point_from_of}
 use Rattle.requests.specs.Kinds.{Asked, list_head, opening_from_of, reading_from_of, tick_from_of, numbers_ask}
@@ -28,9 +29,9 @@ bits_fit n = of_bits-fits binary32 n
 point_fits : (ns : List ℕ) (k : ℕ) → FitPoint (point_from_of ns k)
 point_fits ns k = record { x = bits_fit _; y = bits_fit _; z = bits_fit _ }
 
-opening_fits : (ns : List ℕ) → FitOpening (opening_from_of ns)
+opening_fits : (ns : List ℕ) (kind : OpeningKind) → FitOpening (opening_from_of kind ns)
 unfolding opening_from_of
-opening_fits ns = record { home = point_fits ns 1; fence = bits_fit _; cruise = bits_fit _; volts = bits_fit _ }
+opening_fits ns kind = record { home = point_fits ns 1; fence = bits_fit _; cruise = bits_fit _; volts = bits_fit _ }
 
 reading_fits : (ns : List ℕ) → FitReading (reading_from_of ns)
 unfolding reading_from_of

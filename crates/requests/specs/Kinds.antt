@@ -6,6 +6,9 @@ use Rattle.relay_fsm.specs.declared.Event.{Event}
 use Rattle.relay_fsm.specs.Event.{event_at}
 use Rattle.relay_batt.specs.declared.battery.Reading.{Reading}
 use Rattle.relay_batt.specs.declared.battery.Reading.TheVariants.{Nothing, Volts, VoltsAmps}
+use Rattle.falcon_state.specs.declared.config.OpeningKind.{OpeningKind}
+use Rattle.falcon_state.specs.declared.config.OpeningKind.TheVariants.{Ground, Raised}
+use Rattle.falcon_state.specs.Config.{opening_number}
 use Rattle.falcon_state.specs.declared.flight.Opening.{Opening}
 use Rattle.falcon_state.specs.declared.tick.Tick.{Tick}
 use Rattle.falcon_core.specs.declared.supervisor.Supervisor.{Supervisor}
@@ -13,7 +16,7 @@ use Rattle.falcon_core.specs.declared.supervisor.Answered.{Answered}
 use Rattle.falcon_core.specs.declared.refusal.Refusal.{Refusal}
 use Rattle.falcon_core.specs.declared.refusal.Refusal.TheVariants.{UnknownKind, WrongCount, OutOfRange}
 use Rattle.requests.specs.declared.kinds.Kind.{Kind}
-use Rattle.requests.specs.declared.kinds.Kind.TheVariants.{Opening as OpeningKind, Tick as TickKind, Report as ReportKind, Command as CommandKind, Points as PointsKind, Zones as ZonesKind, Totals as TotalsKind, Saves as SavesKind}
+use Rattle.requests.specs.declared.kinds.Kind.TheVariants.{Opening as OpeningLine, Tick as TickKind, Report as ReportKind, Command as CommandKind, Points as PointsKind, Zones as ZonesKind, Totals as TotalsKind, Saves as SavesKind}
 use Rattle.requests.specs.declared.kinds.LineCall.{LineCall}
 use Rattle.requests.specs.declared.kinds.LineCall.TheVariants.{Flight, Other}
 use Rattle.requests.specs.declared.kinds.FlightCall.{FlightCall}
@@ -43,9 +46,9 @@ is_flag_of ns k = leb (number_at ns k) 1
 abbrev pub fielded : List ℕ → ℕ → Bool → Asked → Asked
 fielded ns count ranges asked = cond (eqb (length ns) count) (cond ranges asked (Err OutOfRange)) (Err WrongCount)
 
--- "1 opening: home (three), fence, cruise, L, required, passed, calibration flag."
-unfoldable pub opening_from_of : List ℕ → Opening
-opening_from_of ns =
+-- "1 opening: home (three), fence, cruise, L, required, passed, calibration flag." U5: "Opening kind 10 has the fields of kind 1"
+unfoldable pub opening_from_of : OpeningKind → List ℕ → Opening
+opening_from_of kind ns =
     record {
       home = point_from_of ns 1;
       fence_radius = float_at ns 4;
@@ -54,10 +57,11 @@ opening_from_of ns =
       required = number_at ns 7;
       passed = number_at ns 8;
       calibration_configured = flag_at ns 9;
+      opening_kind = kind;
     }
 
-unfoldable pub opening_line_of : List ℕ → Asked
-opening_line_of ns = fielded ns 10 (is_flag_of ns 9) (Ok (opens (opening_from_of ns)))
+unfoldable pub opening_line_of : OpeningKind → List ℕ → Asked
+opening_line_of kind ns = fielded ns 10 (is_flag_of ns 9) (Ok (opens (opening_from_of kind ns)))
 
 -- "battery 0 none, 1 volts, 2 volts with amps"
 unfoldable pub reading_from_of : List ℕ → Reading
@@ -149,21 +153,22 @@ saves_kind = 8
 unfoldable pub alone_line_of : List ℕ → Asked → Asked
 alone_line_of ns asked = cond (eqb (length ns) 1) asked (Err WrongCount)
 
--- "The first field is the kind": the kind with a number, none below 1 or above 8
+-- "The first field is the kind": the kind with a number. 9 has none: no line of it is taken
 unfoldable pub kind_at : ℕ → Option Kind
 kind_at n =
-    cond (eqb n 1) (Some OpeningKind)
+    cond (eqb n (opening_number Ground)) (Some (OpeningLine Ground))
     (cond (eqb n 2) (Some TickKind)
     (cond (eqb n 3) (Some ReportKind)
     (cond (eqb n 4) (Some CommandKind)
     (cond (eqb n 5) (Some PointsKind)
     (cond (eqb n 6) (Some ZonesKind)
     (cond (eqb n totals_kind) (Some TotalsKind)
-    (cond (eqb n saves_kind) (Some SavesKind) None)))))))
+    (cond (eqb n saves_kind) (Some SavesKind)
+    (cond (eqb n (opening_number Raised)) (Some (OpeningLine Raised)) None))))))))
 
 -- what the numbers of a line of this kind ask
 abbrev pub kind_line_of : Option Kind → List ℕ → Asked
-kind_line_of (Some OpeningKind) ns = opening_line_of ns
+kind_line_of (Some (OpeningLine kind)) ns = opening_line_of kind ns
 kind_line_of (Some TickKind) ns = tick_line_of ns
 kind_line_of (Some ReportKind) ns = report_line_of ns
 kind_line_of (Some CommandKind) ns = command_line_of ns

@@ -7,17 +7,17 @@ ghost use Rattle.requests.specs.Kinds.{opening_line_of, reading_from_of, battery
 ghost use Rattle.requests.specs.Kinds.{report_line_of, command_line_of, is_list_of, kind_at, numbers_ask, Asks};
 
 use falcon_core::refusal::Refusal;
-use falcon_state::{Opening, Point, Tick, Zone};
+use falcon_state::{Opening, OpeningKind, Point, Tick, Zone};
 use relay_batt::Reading;
 use relay_fsm::Event;
 use relay_math::from_bits;
 use std::error::Error;
 use std::fmt;
 
-// The kinds of lines, numbered from 1 in this order.
+// The kinds of lines. Their numbers are those of `try_from`.
 #[derive(Clone, Copy, Debug, PartialEq, Eq, Hash)]
 pub enum Kind {
-    Opening,
+    Opening(OpeningKind),
     Tick,
     Report,
     Command,
@@ -83,7 +83,7 @@ impl TryFrom<u32> for Kind {
     #[tactic(auto, unfolding(crate::specs::Kinds::kind_at))]
     fn try_from(number: u32) -> Result<Kind, UnknownKind> {
         match number {
-            1 => Ok(Kind::Opening),
+            1 => Ok(Kind::Opening(OpeningKind::Ground)),
             2 => Ok(Kind::Tick),
             3 => Ok(Kind::Report),
             4 => Ok(Kind::Command),
@@ -91,6 +91,7 @@ impl TryFrom<u32> for Kind {
             6 => Ok(Kind::Zones),
             7 => Ok(Kind::Totals),
             8 => Ok(Kind::Saves),
+            10 => Ok(Kind::Opening(OpeningKind::Raised)),
             _ => Err(UnknownKind(number)),
         }
     }
@@ -142,10 +143,13 @@ fn counted<const N: usize>(ns: &[u32]) -> Result<&[u32; N], Refusal>
     ns.try_into().map_err(|_| Refusal::WrongCount)
 }
 
-// A line of kind 1.
+// A line of kind 1 or 10.
 #[tactic(auto, unfolding(crate::specs::Kinds::opening_line_of, crate::specs::Kinds::opening_from_of))]
-fn opening_line(ns: &[u32; Kind::OPENING_FIELDS]) -> Result<LineCall, Refusal>
-    ensures { Asks result ns.now (opening_line_of ns.now) }
+fn opening_line(
+    ns: &[u32; Kind::OPENING_FIELDS],
+    opening_kind: OpeningKind,
+) -> Result<LineCall, Refusal>
+    ensures { Asks result ns.now (opening_line_of opening_kind ns.now) }
 {
     Ok(LineCall::Other(OtherCall::Opens(Opening {
         home: point_from(ns, 1),
@@ -155,6 +159,7 @@ fn opening_line(ns: &[u32; Kind::OPENING_FIELDS]) -> Result<LineCall, Refusal>
         required: ns[7],
         passed: ns[8],
         calibration_configured: flag(ns[9])?,
+        opening_kind,
     })))
 }
 
@@ -232,7 +237,7 @@ pub(crate) fn numbers_ask(ns: &[u32]) -> Result<LineCall, Refusal>
     ensures { Asks result ns.now (numbers_ask ns.now) }
 {
     match Kind::try_from(ns[0])? {
-        Kind::Opening => opening_line(counted(ns)?),
+        Kind::Opening(kind) => opening_line(counted(ns)?, kind),
         Kind::Tick => tick_line(counted(ns)?),
         Kind::Report => report_line(counted(ns)?),
         Kind::Command => command_line(counted(ns)?),

@@ -10,7 +10,7 @@ use columns::field::{FIELD, read_field_of, write_numbers};
 use falcon_core::refusal::Refusal;
 use falcon_core::supervisor::Supervisor;
 use falcon_record::save;
-use falcon_state::{Opening, Point};
+use falcon_state::{Opening, OpeningKind, Point};
 use sheet::entry::answer;
 use sheet::many::answer_sheet;
 use std::io::{Read, Write};
@@ -109,6 +109,7 @@ fn opened() -> Supervisor {
         required: 0,
         passed: 0,
         calibration_configured: false,
+        opening_kind: OpeningKind::Ground,
     });
     answered.supervisor
 }
@@ -121,7 +122,7 @@ fn totals_buffers(output: &mut Stdout) {
     print_answer::<212>(output, opened(), line);
 }
 
-// A line of kind 8: buffers of 110 and 1,869 bytes stay as they were, and of 1,870 a refused answer takes 110 and an accepted one 1,595.
+// A line of kind 8: buffers of 110 and 1,869 bytes stay as they were, and of 1,870 a refused answer takes 110 and an accepted one 1,606.
 fn record_buffers(output: &mut Stdout) {
     let line = b"          8";
     print_answer::<110>(output, Supervisor::new(), line);
@@ -143,7 +144,7 @@ fn print_saved<const N: usize, const BYTES: usize>(output: &mut Stdout, s: Super
     print(output, b"\n");
 }
 
-// The state by values: an array of 159 places stays as it was, of 161 the columns take 135.
+// The state by values: an array of 159 places stays as it was, of 161 the columns take 136.
 fn record_arrays(output: &mut Stdout) {
     print_saved::<159, 1749>(output, opened());
     print_saved::<161, 1771>(output, opened());

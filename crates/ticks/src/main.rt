@@ -3,7 +3,7 @@
 
 use falcon_core::supervisor::Supervisor;
 use falcon_guidance::legs::legs;
-use falcon_state::{Opening, Point, Tick};
+use falcon_state::{Opening, OpeningKind, Point, Tick};
 use falcon_tick::tick::{TickAnswer, tick};
 use relay_batt::Reading;
 use relay_fsm::Event;
@@ -99,6 +99,7 @@ fn started() -> Supervisor {
         required: 0,
         passed: 0,
         calibration_configured: true,
+        opening_kind: OpeningKind::Ground,
     });
     let points = [15.0f32, 1.0, -10.0, 0.0, 7.5, -10.0];
     let listed = opened.supervisor.set_mission_waypoints(&points);

@@ -116,6 +116,7 @@ fn line_of(call: &str) -> Result<(Vec<u8>, bool), String> {
                     "required" => numbers[7] = mask(value)?,
                     "passed" => numbers[8] = mask(value)?,
                     "calibrated" => numbers[9] = 1,
+                    "raised" => numbers[0] = 10,
                     _ => return Err(format!("unknown word {w}")),
                 }
             }

@@ -1,9 +1,10 @@
 //! Two programs on one sheet: their answers side by side, up to the first difference.
 
+use crate::falcon_core::OpeningKind;
 use crate::generate::{generate, Among, Profile};
 use crate::random::Random;
 use crate::records::RecordCounts;
-use crate::sheet::{call_of, read_field, read_line, Call, ANSWER_FIELDS, MODES, TOTALS_ANSWER, WIDEST_ANSWER, WIDTH};
+use crate::sheet::{call_of, line_kind, read_field, read_line, Call, ANSWER_FIELDS, MODES, TOTALS_ANSWER, WIDEST_ANSWER, WIDTH};
 use std::fmt::{self, Display, Formatter};
 use std::io::{self, Read, Write};
 use std::path::Path;
@@ -49,7 +50,7 @@ pub fn compare(programs: [&str; 2], sheet: &Sheet, kept: &Path) -> Result<Counts
     let first = run(programs[0], &sheet.bytes, sheet.pieces).map_err(said)?;
     let second = run(programs[1], &sheet.bytes, None).map_err(said)?;
     let Some(d) = difference(&first, &second) else {
-        return Ok(Counts::of(&second));
+        return Ok(Counts::of(&sheet.bytes, &second));
     };
     let plain = d.first.map(shown) == d.second.map(shown);
     let text = |line: Option<&[u8]>| match line {
@@ -160,7 +161,7 @@ pub fn since_opening(sheet: &[u8], line: usize) -> (usize, Vec<&[u8]>) {
     (from, lines[from..].to_vec())
 }
 
-/// How often each refusal, each mode, the totals and a record were answered, and each mode entered.
+/// How often each refusal, each mode, the totals and a record were answered, each kind of opening accepted, and each mode entered.
 #[derive(Clone, Default)]
 pub struct Counts {
     pub lines: u64,
@@ -168,6 +169,8 @@ pub struct Counts {
     pub totals: u64,
     /// Accepted lines of kind 8, by the answer's width.
     pub records: RecordCounts,
+    /// Accepted lines of kinds 1 and 10.
+    pub openings: [u64; 2],
     pub refusals: [u64; 10],
     pub modes: [u64; 8],
     /// Answers with this mode after one with another, or after none in the case of a mode other than 0.
@@ -175,11 +178,18 @@ pub struct Counts {
 }
 
 impl Counts {
-    pub fn of(answers: &[u8]) -> Counts {
+    pub fn of(sheet: &[u8], answers: &[u8]) -> Counts {
         let mut counts = Counts::default();
         let mut before = 0;
-        for answer in answers.split_inclusive(|&b| b == b'\n').filter(|answer| answer.len() > 2 * WIDTH) {
+        let lines = sheet.split(|&b| b == b'\n').zip(answers.split_inclusive(|&b| b == b'\n'));
+        for (line, answer) in lines.filter(|(_, answer)| answer.len() > 2 * WIDTH) {
             counts.lines += 1;
+            if answer[WIDTH - 1] == b'0' {
+                let kind = line.first_chunk::<WIDTH>().and_then(|field| read_field(field));
+                for (n, opening) in counts.openings.iter_mut().zip([OpeningKind::Ground, OpeningKind::Raised]) {
+                    *n += u64::from(kind == Some(line_kind(opening)));
+                }
+            }
             counts.totals += u64::from(answer.len() == TOTALS_ANSWER * WIDTH + 1);
             if answer.len() == WIDEST_ANSWER * WIDTH + 1 {
                 let columns: Option<Vec<u32>> = answer[ANSWER_FIELDS * WIDTH..].chunks_exact(WIDTH).map(read_field).collect();
@@ -202,15 +212,16 @@ impl Counts {
         self.lines += other.lines;
         self.totals += other.totals;
         self.records.add(&other.records);
-        let sums = self.refusals.iter_mut().chain(&mut self.modes).chain(&mut self.entered);
-        for (sum, n) in sums.zip(other.refusals.iter().chain(&other.modes).chain(&other.entered)) {
+        let sums = self.refusals.iter_mut().chain(&mut self.openings).chain(&mut self.modes).chain(&mut self.entered);
+        for (sum, n) in sums.zip(other.refusals.iter().chain(&other.openings).chain(&other.modes).chain(&other.entered)) {
             *sum += n;
         }
     }
 
-    /// Every refusal 1..8, every mode, the totals and every sort of record that a profile has were answered.
+    /// Every refusal 1..8, every mode, the totals and every sort of record that a profile has were answered, and openings of both kinds accepted.
     pub fn has_all(&self, profile: Option<Profile>) -> bool {
-        self.refusals[1..9].iter().chain(&self.modes).chain([&self.totals]).all(|&n| n > 0) && self.records.has_all(profile)
+        let counts = self.refusals[1..9].iter().chain(&self.openings).chain(&self.modes).chain([&self.totals]);
+        counts.into_iter().all(|&n| n > 0) && self.records.has_all(profile)
     }
 }
 
@@ -220,6 +231,7 @@ impl Display for Counts {
         writeln!(f, "refusals answered, 0 (accepted) to 8: {:?}", &self.refusals[..9])?;
         writeln!(f, "modes answered: {}", named(&self.modes))?;
         writeln!(f, "modes entered: {}", named(&self.entered))?;
+        writeln!(f, "openings accepted: of kind 1 {}, of kind 10 {}", self.openings[0], self.openings[1])?;
         writeln!(f, "totals answered: {}", self.totals)?;
         write!(f, "records answered: {}", self.records)
     }

@@ -1,7 +1,9 @@
 //! Document 01's sheet over the Rust supervisor: lines to calls, calls to answers.
 
 use crate::due::{report, tick, Due};
-use crate::falcon_core::{CoreInputs, CoreOutputs, FlightBackend, FlightCore, FlightSupervisor, HoldRegime, KeepoutZone, NavState};
+use crate::falcon_core::{
+    CoreInputs, CoreOutputs, FlightBackend, FlightCore, FlightSupervisor, HoldRegime, KeepoutZone, NavState, OpeningKind,
+};
 use crate::relay_fsm::{Event, Mode};
 use crate::relay_preflight::{CheckId, CheckTable};
 use crate::stand_ins::relay_calib::CalParams;
@@ -21,8 +23,8 @@ pub const TOTALS_ANSWER: usize = ANSWER_FIELDS + TOTALS;
 /// Places of a record for points, of three columns each, and for zones, of four: the record's own, whatever the Rust has room for.
 const POINT_PLACES: usize = 16;
 const ZONE_PLACES: usize = 8;
-/// Columns of a record, which are those of a line of kind 9 (docs/RECORD.md): 55 before the first point.
-pub const RECORD: usize = 55 + 3 * POINT_PLACES + 4 * ZONE_PLACES;
+/// Columns of a record, which are those of a line of kind 9 (docs/RECORD.md): 55 before the first point, and the opening kind behind the last zone.
+pub const RECORD: usize = 55 + 3 * POINT_PLACES + 4 * ZONE_PLACES + 1;
 /// Fields of the widest answer: an accepted line of kind 8 has the record behind the ordinary fields.
 pub const WIDEST_ANSWER: usize = ANSWER_FIELDS + RECORD;
 /// Every NaN of an answer.
@@ -49,9 +51,10 @@ pub const EVENTS: [Event; 12] = [
     Event::Terminate,
 ];
 
-/// Kind 1.
+/// Kinds 1 and 10.
 #[derive(Clone, Copy, Debug)]
 pub struct Opening {
+    pub kind: OpeningKind,
     pub home: [f32; 3],
     pub fence: f32,
     pub cruise: f32,
@@ -149,9 +152,18 @@ fn vector(n: &[u32], i: usize) -> [f32; 3] {
     [float(n, i), float(n, i + 1), float(n, i + 2)]
 }
 
-/// The opening of ten numbers, the first of which is not looked at.
+/// The kind of the lines that are openings of a kind.
+pub fn line_kind(opening: OpeningKind) -> u32 {
+    match opening {
+        OpeningKind::Ground => 1,
+        OpeningKind::Raised => 10,
+    }
+}
+
+/// The opening of ten numbers, the first of which says which kind it is.
 pub fn opening_of(n: &[u32]) -> Opening {
     Opening {
+        kind: if n[0] == 10 { OpeningKind::Raised } else { OpeningKind::Ground },
         home: vector(n, 1),
         fence: float(n, 4),
         cruise: float(n, 5),
@@ -187,7 +199,7 @@ pub fn call_of(n: &[u32]) -> Result<Call<'_>, u32> {
     let count = |want: u64| if n.len() as u64 == want { Ok(()) } else { Err(4u32) };
     let range = |ok: bool| if ok { Ok(()) } else { Err(5u32) };
     match n[0] {
-        1 => {
+        1 | 10 => {
             count(10)?;
             range(n[7] < 1 << 21 && n[8] < 1 << 21 && flag(9))?;
             Ok(Call::Opening(opening_of(n)))
@@ -491,12 +503,14 @@ fn write_record(c: &mut Columns, s: &FlightSupervisor, low_volts: f32, totals: &
         c.floats(&center);
         c.floats(&[radius]);
     }
+    c.number(line_kind(s.opening_kind));
 }
 
 /// The supervisor of an opening. Without the calibration flag `set_calibration` is not called: the first tick then reads the flag.
 pub fn open(o: Opening) -> FlightSupervisor {
     let table = CheckTable::from_masks(o.required, o.passed);
     let mut supervisor = FlightSupervisor::with_core(FlightCore::default(), o.home, o.fence, o.cruise, o.low_volts, table);
+    supervisor.opening_kind = o.kind;
     if o.calibrated {
         supervisor.set_calibration(CalParams { valid: true });
     }

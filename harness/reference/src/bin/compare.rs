@@ -1,9 +1,10 @@
 //! `compare PROGRAM REFERENCE PROFILE SEED LINES [--pieces] [--long] [--all]` runs both programs on a generated sheet and stops at the first
 //! difference. With --pieces the sheet is cut at random places on its way into PROGRAM; with --long lines of a megabyte or more are put into
-//! it; with --all it also fails unless every refusal 1..8, every mode, the totals of kind 7 and every sort of record of kind 8 were answered: with
-//! points, with zones, with both unless the profile is edge, and with a NaN unless it is flight. `compare PROGRAM REFERENCE --sheet FILE` takes a sheet from a
-//! file, and --pieces and --all too. `compare PROGRAM REFERENCE --scale LINES SEED FIGURES` takes so many lines in sheets of all profiles from a seed on, some
-//! in pieces, some with long lines, and hands them to the program `figures` too.
+//! it; with --all it also fails unless every refusal 1..8, every mode, the totals of kind 7 and every sort of record of kind 8 were answered, and openings
+//! of kinds 1 and 10 accepted: records with points, with zones, with both unless the profile is edge, with a NaN unless it is flight, of days opened by
+//! kind 1 and by kind 10. `compare PROGRAM REFERENCE --sheet FILE` takes a sheet from a file, and --pieces and --all too. `compare PROGRAM REFERENCE
+//! --scale LINES SEED FIGURES` takes so many lines in sheets of all profiles from a seed on, some in pieces, some with long lines, hands them to the
+//! program `figures` too, and fails unless all of them together reach what --all asks for.
 
 use reference::compare::{compare, Counts, Sheet};
 use reference::generate::Profile;
@@ -61,14 +62,14 @@ fn said(e: io::Error) -> String {
 /// One sheet.
 fn one(programs: [&str; 2], sheet: &Sheet, all: bool, kept: &Path) -> Result<(), String> {
     let counts = compare(programs, sheet, kept)?;
-    let Counts { lines, refusals, modes, totals, records, .. } = &counts;
+    let Counts { lines, refusals, modes, totals, records, openings, .. } = &counts;
     let title = &sheet.title;
     println!(
-        "{title}: {lines} lines alike; refusals 0..8: {:?}; modes 0..7: {modes:?}; totals: {totals}; records: {records}",
+        "{title}: {lines} lines alike; refusals 0..8: {:?}; modes 0..7: {modes:?}; openings of kinds 1, 10: {openings:?}; totals: {totals}; records: {records}",
         &refusals[..9]
     );
     if all && !counts.has_all(sheet.profile) {
-        return Err(format!("{title}: a refusal, a mode, the totals or a sort of record were not answered"));
+        return Err(format!("{title}: a refusal, a mode, a kind of opening, the totals or a sort of record were not answered"));
     }
     Ok(())
 }
@@ -106,5 +107,9 @@ fn scale(programs: [&str; 2], lines: usize, first_seed: u64, figures: &str, kept
     println!("{cut} sheets cut at random places, {long} lines of a megabyte or more\n{total}");
     let last = String::from_utf8_lossy(&output).lines().last().unwrap_or("no figures").to_string();
     println!("{last} ({})", branches.display());
-    Ok(())
+    if total.has_all(None) {
+        Ok(())
+    } else {
+        Err("not all of these were answered: more lines reach them".to_string())
+    }
 }

@@ -1,9 +1,10 @@
-//! `figures < SHEET` counts what a sheet reaches: refusals, modes, totals, records, events handed to the mode machine, branches of the Rust.
+//! `figures < SHEET` counts what a sheet reaches: refusals, modes, openings, totals, records, events handed to the mode machine, branches of the Rust.
 //! It fails if a branch is not reached that can be reached, or if one is that cannot.
 
 use reference::cover;
+use reference::falcon_core::OpeningKind;
 use reference::records::RecordCounts;
-use reference::sheet::{each_line, Answer, Shuttle, ANSWER_FIELDS, MODES};
+use reference::sheet::{call_of, each_line, read_line, Answer, Call, Shuttle, ANSWER_FIELDS, MODES};
 use std::io;
 use std::process::ExitCode;
 
@@ -40,7 +41,13 @@ const UNREACHABLE: [(&str, &str); 11] = [
 fn main() -> ExitCode {
     let mut shuttle = Shuttle::new();
     let (mut lines, mut refusals, mut modes, mut totals, mut records) = (0u64, [0u64; 9], [0u64; 8], 0u64, RecordCounts::default());
+    // Accepted openings of kinds 1 and 10, and those of kind 10 that ended a report's being due.
+    let (mut openings, mut while_due) = ([0u64; 2], 0u64);
     let read = each_line(&mut io::stdin().lock(), |line| {
+        if let Some(Ok(Call::Opening(opening))) = read_line(line).as_deref().map(call_of) {
+            openings[usize::from(opening.kind == OpeningKind::Raised)] += 1;
+            while_due += u64::from(opening.kind == OpeningKind::Raised && shuttle.report_due());
+        }
         let answer = shuttle.answer(line);
         lines += 1;
         refusals[answer[0] as usize] += 1;
@@ -65,6 +72,7 @@ fn main() -> ExitCode {
     for (mode, count) in MODES.iter().zip(modes) {
         println!("  {mode}: {count}");
     }
+    println!("openings accepted: of kind 1 {}, of kind 10 {}, of these while a report was due {while_due}", openings[0], openings[1]);
     println!("totals answered: {totals}");
     println!("records answered: {records}");
     println!("events handed to the mode machine, by the mode met (+ without a position):");
@@ -97,7 +105,8 @@ fn main() -> ExitCode {
         "{reached} of {all} branches reached, {} cannot be, {faults} faults; {pairs} of 96 pairs of mode and event",
         UNREACHABLE.len()
     );
-    let answered = refusals[1..].iter().chain(&modes).chain([&totals]).all(|&n| n > 0) && records.has_all(None);
+    let answered =
+        refusals[1..].iter().chain(&modes).chain(&openings).chain([&while_due, &totals]).all(|&n| n > 0) && records.has_all(None);
     if faults == 0 && pairs == 96 && answered {
         ExitCode::SUCCESS
     } else {

@@ -1,6 +1,6 @@
 //! `ticks` flies the day of crates/ticks as often as that does and prints the same sum: the Rust's `step` with no text, for timing.
 
-use reference::falcon_core::{CoreInputs, FlightSupervisor, KeepoutZone, NavState};
+use reference::falcon_core::{CoreInputs, FlightSupervisor, KeepoutZone, NavState, OpeningKind};
 use reference::relay_fsm::Event;
 use reference::sheet::{answer_bits, open, Opening, Tick};
 
@@ -45,8 +45,16 @@ fn fly(supervisor: &mut FlightSupervisor, mut sum: u32) -> u32 {
 fn main() {
     let mut sum = 0;
     for _ in 0..DAYS {
-        let mut supervisor =
-            open(Opening { home: [0.0; 3], fence: 100.0, cruise: 10.0, low_volts: 21.0, required: 0, passed: 0, calibrated: true });
+        let mut supervisor = open(Opening {
+            kind: OpeningKind::Ground,
+            home: [0.0; 3],
+            fence: 100.0,
+            cruise: 10.0,
+            low_volts: 21.0,
+            required: 0,
+            passed: 0,
+            calibrated: true,
+        });
         supervisor.set_mission_waypoints(&[[15.0, 1.0, -10.0], [0.0, 7.5, -10.0]]);
         supervisor.set_keepout_zones(&[KeepoutZone { center: [9.0, 3.0, 0.0], radius: 2.0 }]);
         supervisor.command(Event::Arm, true, true);

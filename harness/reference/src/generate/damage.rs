@@ -3,14 +3,15 @@
 use crate::random::Random;
 use crate::sheet::write_fields;
 
-/// A damaged line made from a sound one.
-pub fn damaged(r: &mut Random, numbers: &[u32], line: &[u8]) -> Vec<u8> {
+/// A damaged line made from a sound one; of kind 10 only where pads are raised.
+pub fn damaged(r: &mut Random, numbers: &[u32], line: &[u8], raised: bool) -> Vec<u8> {
+    let kinds: &[u32] = if raised { &[0, 7, 8, 9, 10, 11, 100, 4294967295] } else { &[0, 7, 8, 9, 11, 100, 4294967295] };
     match r.below(16) {
         0 => cut(r, line),
         1 => longer(r, line),
         2 | 3 => bad_byte(r, line),
         4 => bad_field(r, line),
-        5 => with(r, numbers, |r, n| n[0] = r.pick(&[0, 7, 8, 9, 10, 100, 4294967295])),
+        5 => with(r, numbers, |r, n| n[0] = r.pick(kinds)),
         6 => with(r, numbers, |r, n| {
             if r.one_in(2) {
                 n.push(r.pick(&[0, 1, 4294967295]));
@@ -72,6 +73,20 @@ pub fn asked_alone(r: &mut Random, kind: u32, damage_one_in: u64) -> Vec<u8> {
         3 => bad_field(r, &line),
         _ => numbers_line(&[kind, r.pick(&[0, 1, kind, 4294967295])]),
     }
+}
+
+/// An opening that is refused: without its last fields or with one too many, or with a mask or the flag out of its range.
+pub fn refused_opening(r: &mut Random, numbers: &[u32; 10]) -> Vec<u8> {
+    if r.one_in(2) {
+        let mut n = numbers.to_vec();
+        n.push(0);
+        n.truncate(r.pick(&[1, 2, 9, 9, 11]));
+        return numbers_line(&n);
+    }
+    let mut n = *numbers;
+    let (at, value) = r.pick(&BAD_OPENINGS);
+    n[at] = value;
+    numbers_line(&n)
 }
 
 fn not_newline(b: u8) -> u8 {
@@ -154,11 +169,14 @@ fn bad_field(r: &mut Random, line: &[u8]) -> Vec<u8> {
     bad
 }
 
+/// Places of an opening and numbers out of their range.
+const BAD_OPENINGS: [(usize, u32); 6] = [(7, 2097152), (8, 2097152), (9, 2), (7, 4294967295), (8, 2147483648), (9, 4294967295)];
+
 /// A tick or an opening with one number out of its range.
 fn out_of_range(r: &mut Random) -> Vec<u8> {
     if r.one_in(3) {
         let mut n = [1, 0, 0, 0, 1120403456, 1092616192, 1101529088, 0, 0, 0];
-        let (at, value) = r.pick(&[(7, 2097152), (8, 2097152), (9, 2), (7, 4294967295), (8, 2147483648), (9, 4294967295)]);
+        let (at, value) = r.pick(&BAD_OPENINGS);
         n[at] = value;
         return numbers_line(&n);
     }

@@ -1,6 +1,7 @@
 //! The profile `edge`: values one step around every limit of the Rust, and counts one around 50 and 125.
 
-use super::{event, float, Generator, OpeningLine, Step, TickLine, FOR_FOUR_CELLS};
+use super::{event, float, roof, Generator, OpeningLine, Step, TickLine, FOR_FOUR_CELLS, ODD_PADS};
+use crate::falcon_core::OpeningKind;
 use crate::relay_batt::{BattConfig, BatteryEstimator};
 use crate::relay_fsm::Mode;
 use crate::relay_preflight::CheckId;
@@ -11,6 +12,9 @@ const LATER: usize = 1_000;
 
 /// One scenario, begun by an opening of its own.
 pub fn scenario(g: &mut Generator) -> Step {
+    if g.raised_one_in(8) {
+        return odd_pads(g);
+    }
     let scenarios = if g.written() < LATER { 28 } else { 33 };
     match g.random.below(scenarios) {
         0 => {
@@ -43,7 +47,9 @@ pub fn scenario(g: &mut Generator) -> Step {
             // Heights 0.2 below a cruise height just above a power of two have a finer step than it, so that h > cruise - 0.2 and h + 0.2 > cruise differ.
             let power = g.random.pick(&[4.0, 8.0, 16.0, 32.0]);
             let cruise = if g.random.one_in(2) { power + g.random.between(0.0, 0.2) } else { g.random.between(0.0, 60.0) };
-            takeoff_height(g, OpeningLine { cruise, ..PLAIN })
+            let mut o = OpeningLine { cruise, ..PLAIN };
+            pad(g, &mut o);
+            takeoff_height(g, o)
         }
         29 => far_points(g),
         30 => wind_runs_on(g),
@@ -52,8 +58,7 @@ pub fn scenario(g: &mut Generator) -> Step {
     }
 }
 
-const PLAIN: OpeningLine =
-    OpeningLine { home: [0.0; 3], fence: 100.0, cruise: 10.0, low_volts: 21.0, required: 0, passed: 0, calibrated: 0 };
+const PLAIN: OpeningLine = OpeningLine::PLAIN;
 
 /// A tick high up and away from home.
 const AWAY: TickLine = TickLine {
@@ -71,6 +76,11 @@ const AWAY: TickLine = TickLine {
     amps: None,
 };
 
+/// The same over the pad of an opening.
+fn away(o: &OpeningLine) -> TickLine {
+    TickLine { p: [5.0, 0.0, o.z_at(5.0)], ..AWAY }
+}
+
 fn length(x: f32, y: f32) -> f32 {
     (x * x + y * y).sqrt()
 }
@@ -85,7 +95,19 @@ fn plain(g: &mut Generator) -> OpeningLine {
     o.cruise = g.random.pick(&[10.0, 7.3, 10.25, 20.0]);
     o.required = g.random.pick(&[0, 0, 1 << 18]);
     o.passed = o.required;
+    pad(g, &mut o);
     o
+}
+
+/// Of eight openings two have a raised pad on a roof, one where home was drawn, and one a roof opened by kind 1.
+fn pad(g: &mut Generator, o: &mut OpeningLine) {
+    let Some(r) = &mut g.raised else { return };
+    match r.below(8) {
+        0 | 1 => (o.kind, o.home[2]) = (OpeningKind::Raised, roof(r)),
+        2 => o.kind = OpeningKind::Raised,
+        3 => o.home[2] = roof(r),
+        _ => {}
+    }
 }
 
 /// Open and lead to a mode by commands.
@@ -120,6 +142,15 @@ fn place_at(g: &mut Generator, from: [f32; 2], distance: f32) -> [f32; 2] {
     }
 }
 
+/// A z whose height over the pad is a limit, within a step or two: where the test of the height changes.
+fn z_near(g: &mut Generator, o: &OpeningLine, most: f32, test: impl Fn(f32) -> bool) -> f32 {
+    let pad = o.home[2];
+    match o.kind {
+        OpeningKind::Ground => -float::boundary(&mut g.random, 0.0, most, test),
+        OpeningKind::Raised => float::boundary(&mut g.random, pad - most, pad, |z| test(pad - z)),
+    }
+}
+
 /// Velocities of a speed, within a step or two.
 fn speed_of(g: &mut Generator, speed: f32) -> [f32; 3] {
     let [x, y] = place_at(g, [0.0; 2], speed);
@@ -149,8 +180,8 @@ fn takeoff_height(g: &mut Generator, o: OpeningLine) -> Step {
     for _ in 0..4 {
         let mut tick = AWAY;
         let cruise = o.cruise;
-        let height = float::boundary(&mut g.random, 0.0, 50.0, |h| h > cruise - 0.2);
-        tick.p = [o.home[0] + 3.0, o.home[1], -height];
+        let z = z_near(g, &o, 50.0, |h| h > cruise - 0.2);
+        tick.p = [o.home[0] + 3.0, o.home[1], z];
         let speed = g.random.pick(&[0.0, 0.3, 1.0]);
         tick.v = speed_of(g, speed);
         g.fly(&tick, false)?;
@@ -168,7 +199,7 @@ fn home_distances(g: &mut Generator) -> Step {
         let speed = g.random.pick(&[0.0, 0.4, 0.4, 1.0]);
         let v = speed_of(g, speed);
         let failed = u32::from(g.random.one_in(8));
-        g.fly(&TickLine { p: [x, y, -5.0], v, failed, ..AWAY }, false)?;
+        g.fly(&TickLine { p: [x, y, o.z_at(5.0)], v, failed, ..AWAY }, false)?;
     }
     Ok(())
 }
@@ -177,9 +208,45 @@ fn touchdown(g: &mut Generator) -> Step {
     let o = plain(g);
     enter(g, o, Mode::Land)?;
     for _ in 0..4 {
-        let z = float::boundary(&mut g.random, 0.0, 1.0, |h| h < 0.15);
+        let z = z_near(g, &o, 1.0, |h| h < 0.15);
         let x = g.random.pick(&[0.0, 0.2, 5.0]);
-        g.fly(&TickLine { p: [o.home[0] + x, o.home[1], -z], ..AWAY }, false)?;
+        g.fly(&TickLine { p: [o.home[0] + x, o.home[1], z], ..AWAY }, false)?;
+    }
+    Ok(())
+}
+
+/// Pads and cruise heights that are odd, opened by either kind, also while a report is due: the setpoint of every mode that has the cruise height, and
+/// heights around the limits as either kind measures them.
+fn odd_pads(g: &mut Generator) -> Step {
+    if g.mode().is_airborne() && g.random.one_in(2) {
+        g.tick(&AWAY)?;
+    }
+    let mut o = plain(g);
+    o.kind = g.random.pick(&[OpeningKind::Raised, OpeningKind::Raised, OpeningKind::Raised, OpeningKind::Ground]);
+    o.home[2] = match g.random.below(4) {
+        0 => float::any(&mut g.random),
+        1 => g.random.pick(&ODD_PADS),
+        _ => roof(&mut g.random),
+    };
+    o.cruise = match g.random.below(6) {
+        0 => float::any(&mut g.random),
+        1 => g.random.pick(&[0.0, -0.0, 0.2, f32::MIN_POSITIVE, f32::NAN, f32::INFINITY, f32::NEG_INFINITY]),
+        2 => o.home[2],
+        _ => o.cruise,
+    };
+    let mode = g.random.pick(&[Mode::Takeoff, Mode::Loiter, Mode::Rtl, Mode::Land, Mode::Land]);
+    enter(g, o, mode)?;
+    let (pad, cruise) = (o.home[2], o.cruise);
+    for _ in 0..4 {
+        let limit = if g.mode() == Mode::Takeoff { cruise - 0.2 } else { 0.15 };
+        let z = match g.random.below(5) {
+            0 => float::any(&mut g.random),
+            1 => -float::boundary(&mut g.random, -100.0, 100.0, |h| h > limit),
+            _ => float::boundary(&mut g.random, pad - 100.0, pad + 100.0, |z| pad - z > limit),
+        };
+        let x = g.random.pick(&[0.0, 5.0]);
+        let (failed, reported) = (u32::from(g.random.one_in(4)), g.random.one_in(10));
+        g.fly(&TickLine { p: [o.home[0] + x, o.home[1], z], failed, ..AWAY }, reported)?;
     }
     Ok(())
 }
@@ -219,7 +286,7 @@ fn braking(g: &mut Generator) -> Step {
     let from = g.random.pick(&[Mode::Mission, Mode::Takeoff, Mode::Loiter]);
     enter(g, o, from)?;
     if from == Mode::Mission {
-        g.fly(&TickLine { p: [o.home[0] + 20.0, o.home[1], -10.0], ..AWAY }, false)?;
+        g.fly(&TickLine { p: [o.home[0] + 20.0, o.home[1], o.z_at(10.0)], ..AWAY }, false)?;
         g.command(event::LOITER)?;
     }
     let speed = g.random.pick(&[0.3, 0.3, 1.0]);
@@ -227,7 +294,7 @@ fn braking(g: &mut Generator) -> Step {
     let mut dt = g.random.pick(&[0.0, 0.5, 20.0, 29.0]);
     for _ in 0..4 + g.random.below(8) {
         let x = g.random.between(0.0, 20.0);
-        let p = [o.home[0] + x, o.home[1], -o.cruise - 1.0];
+        let p = [o.home[0] + x, o.home[1], o.z_at(o.cruise + 1.0)];
         g.fly(&TickLine { dt, p, v, ..AWAY }, false)?;
         let (brake, rest) = (g.supervisor().brake_s, g.supervisor().brake_rest_s);
         let near_rest = g.random.pick(&[0.1, 0.1, 0.05, 0.5]);
@@ -266,7 +333,7 @@ fn fence(g: &mut Generator) -> Step {
     enter(g, o, mode)?;
     for _ in 0..5 {
         let [x, y] = place_at(g, [o.home[0], o.home[1]], o.fence);
-        g.fly(&TickLine { p: [x, y, -5.0], ..AWAY }, false)?;
+        g.fly(&TickLine { p: [x, y, o.z_at(5.0)], ..AWAY }, false)?;
     }
     Ok(())
 }
@@ -275,16 +342,17 @@ fn tilted(g: &mut Generator) -> Step {
     let o = plain(g);
     let mode = g.random.pick(&[Mode::Takeoff, Mode::Loiter, Mode::Mission, Mode::Rtl, Mode::Land]);
     enter(g, o, mode)?;
+    let away = away(&o);
     if g.random.one_in(10) {
         for _ in 0..3 {
-            g.tick(&TickLine { tilt: 1.06, ..AWAY })?;
+            g.tick(&TickLine { tilt: 1.06, ..away })?;
         }
     }
     let run = g.random.pick(&[49, 50, 51]);
     for _ in 0..run {
         let tilt = g.random.pick(&[1.05f32.next_up(), 1.05f32.next_up(), 1.06, 3.0, f32::INFINITY]);
-        let p = [o.home[0] + 5.0, o.home[1], -5.0];
-        g.fly(&TickLine { p, tilt, ..AWAY }, false)?;
+        let p = [o.home[0] + 5.0, o.home[1], o.z_at(5.0)];
+        g.fly(&TickLine { p, tilt, ..away }, false)?;
         between(g)?;
         if g.random.one_in(100) {
             let event = g.random.pick(&[event::RTL, event::LAND, event::FAILSAFE]);
@@ -293,7 +361,7 @@ fn tilted(g: &mut Generator) -> Step {
     }
     for _ in 0..2 {
         let tilt = g.random.pick(&[1.05, 1.05f32.next_up(), 1.05f32.next_down(), f32::NAN]);
-        g.fly(&TickLine { p: [o.home[0] + 5.0, o.home[1], -5.0], tilt, ..AWAY }, false)?;
+        g.fly(&TickLine { p: [o.home[0] + 5.0, o.home[1], o.z_at(5.0)], tilt, ..away }, false)?;
     }
     Ok(())
 }
@@ -303,7 +371,7 @@ fn windy(g: &mut Generator) -> Step {
     let mode = g.random.pick(&[Mode::Takeoff, Mode::Loiter, Mode::Mission, Mode::Rtl, Mode::Land]);
     enter(g, o, mode)?;
     let run = g.random.pick(&[124, 125, 126]);
-    let p = [o.home[0] + 5.0, o.home[1], -5.0];
+    let p = [o.home[0] + 5.0, o.home[1], o.z_at(5.0)];
     let motors = [0.95, 0.95f32.next_up(), 1.0, f32::INFINITY];
     for _ in 0..run {
         let tilt = g.random.pick(&[0.3, 0.7, 0.5, 0.3f32.next_up(), 0.7f32.next_down()]);
@@ -334,7 +402,7 @@ fn down_and_up(g: &mut Generator) -> Step {
 fn wind_runs_on(g: &mut Generator) -> Step {
     let o = plain(g);
     enter(g, o, Mode::Rtl)?;
-    let windy = TickLine { p: [o.home[0] + 5.0, o.home[1], -5.0], tilt: 0.5, motor: 1.0, ..AWAY };
+    let windy = TickLine { p: [o.home[0] + 5.0, o.home[1], o.z_at(5.0)], tilt: 0.5, motor: 1.0, ..AWAY };
     for _ in 0..g.random.pick(&[123, 124, 125, 130]) {
         g.fly(&windy, false)?;
     }
@@ -351,23 +419,24 @@ fn latch_runs_on(g: &mut Generator) -> Step {
     o.required = 1 << 18;
     o.passed = o.required;
     enter(g, o, Mode::Takeoff)?;
-    g.fly(&TickLine { p: [o.home[0] + 200.0, o.home[1], -5.0], ..AWAY }, false)?;
+    let away = away(&o);
+    g.fly(&TickLine { p: [o.home[0] + 200.0, o.home[1], o.z_at(5.0)], ..away }, false)?;
     g.command(event::LAND)?;
     g.command(event::TOUCHDOWN)?;
     if g.random.one_in(3) {
-        g.fly(&AWAY, false)?;
+        g.fly(&away, false)?;
     }
     g.command(event::ARM)?;
-    g.fly(&AWAY, false)?;
+    g.fly(&away, false)?;
     g.command(event::TAKEOFF)?;
-    g.fly(&AWAY, false)
+    g.fly(&away, false)
 }
 
 fn silence(g: &mut Generator) -> Step {
     let o = plain(g);
     let mode = g.random.pick(&[Mode::Takeoff, Mode::Loiter, Mode::Mission, Mode::Rtl, Mode::Armed]);
     enter(g, o, mode)?;
-    let p = [o.home[0] + g.random.pick(&[5.0, 0.0]), o.home[1], -5.0];
+    let p = [o.home[0] + g.random.pick(&[5.0, 0.0]), o.home[1], o.z_at(5.0)];
     for _ in 0..3 + g.random.below(6) {
         let sum = g.supervisor().batt_missing_s;
         let dt = match g.random.below(4) {
@@ -383,7 +452,17 @@ fn silence(g: &mut Generator) -> Step {
 
 /// The pack of an opening with these volts.
 fn pack_of(low_volts: f32) -> BattConfig {
-    sheet::open(Opening { home: [0.0; 3], fence: 100.0, cruise: 10.0, low_volts, required: 0, passed: 0, calibrated: false }).batt_est.cfg
+    let opening = Opening {
+        kind: OpeningKind::Ground,
+        home: [0.0; 3],
+        fence: 100.0,
+        cruise: 10.0,
+        low_volts,
+        required: 0,
+        passed: 0,
+        calibrated: false,
+    };
+    sheet::open(opening).batt_est.cfg
 }
 
 /// Volts of the pack at which a cell's fall below a limit, within a step or two.
@@ -402,6 +481,7 @@ fn volts_only(g: &mut Generator) -> Step {
     }
     o.required |= 1 << 4;
     enter(g, o, Mode::Takeoff)?;
+    let away = away(&o);
     let (low, critical) = (g.pack().low_v_cell_fallback, g.pack().crit_v_cell_fallback);
     for _ in 0..4 + g.random.below(10) {
         let limit = g.random.pick(&[low, critical]);
@@ -413,7 +493,7 @@ fn volts_only(g: &mut Generator) -> Step {
             1 => g.random.pick(&[1.0f32, 1.0f32.next_up(), 1.0f32.next_down(), 0.5]),
             _ => g.random.between(0.3, 1.0),
         };
-        g.fly(&TickLine { dt, volts: Some(volts), ..AWAY }, false)?;
+        g.fly(&TickLine { dt, volts: Some(volts), ..away }, false)?;
     }
     Ok(())
 }
@@ -426,7 +506,7 @@ fn volts_shown(g: &mut Generator) -> Step {
         let mode = g.random.pick(&[Mode::Takeoff, Mode::Rtl]);
         enter(g, o, mode)?;
         let limit = if mode == Mode::Takeoff { g.pack().low_v_cell_fallback } else { g.pack().crit_v_cell_fallback };
-        let tick = TickLine { dt: 1.0, p: [o.home[0] + 5.0, o.home[1], -5.0], ..AWAY };
+        let tick = TickLine { dt: 1.0, p: [o.home[0] + 5.0, o.home[1], o.z_at(5.0)], ..AWAY };
         g.fly(&TickLine { volts: Some(1.0), ..tick }, false)?;
         let volts = volts_at(g, 0.0, 30.0, limit);
         g.fly(&TickLine { volts: Some(volts), ..tick }, false)?;
@@ -446,10 +526,11 @@ fn charge(g: &mut Generator) -> Step {
     let mut o = plain(g);
     o.required |= 1 << 13;
     enter(g, o, Mode::Takeoff)?;
+    let away = away(&o);
     let spend = g.random.one_in(3);
     if spend {
         for _ in 0..20 + g.random.below(18) {
-            g.fly(&TickLine { dt: 1.0, volts: Some(25.2), amps: Some(500.0), ..AWAY }, false)?;
+            g.fly(&TickLine { dt: 1.0, volts: Some(25.2), amps: Some(500.0), ..away }, false)?;
         }
     }
     for _ in 0..4 + g.random.below(10) {
@@ -470,9 +551,9 @@ fn charge(g: &mut Generator) -> Step {
         } else {
             volts = volts_for(g, estimator, dt, amps, limit);
         }
-        g.fly(&TickLine { dt, volts: Some(volts), amps: Some(amps), ..AWAY }, false)?;
+        g.fly(&TickLine { dt, volts: Some(volts), amps: Some(amps), ..away }, false)?;
         if g.random.one_in(8) {
-            g.fly(&AWAY, false)?;
+            g.fly(&away, false)?;
         }
     }
     Ok(())
@@ -486,7 +567,7 @@ fn charge_shown(g: &mut Generator) -> Step {
         o.required = 1 << 13;
         o.passed = o.required;
         enter(g, o, mode)?;
-        let p = [o.home[0] + 5.0, o.home[1], -5.0];
+        let p = [o.home[0] + 5.0, o.home[1], o.z_at(5.0)];
         let amps = g.random.pick(&[0.0, 0.0, 4.0, 33.0]);
         g.fly(&TickLine { dt: 1.0, p, volts: Some(19.5), amps: Some(amps), ..AWAY }, false)?;
         let amps = g.random.pick(&[amps, amps, 50.0]);
@@ -505,8 +586,9 @@ fn spent(g: &mut Generator) -> Step {
     o.required = 1 << 13;
     o.passed = o.required;
     enter(g, o, mode)?;
+    let away = away(&o);
     let dt = g.random.between(0.9, 0.99);
-    let full = TickLine { dt, volts: Some(25.2), amps: Some(g.random.between(380.0, 440.0)), ..AWAY };
+    let full = TickLine { dt, volts: Some(25.2), amps: Some(g.random.between(380.0, 440.0)), ..away };
     while g.supervisor().batt_est.consumed_mah < 5000.0 * (1.0 - limit) - 124.0 {
         g.fly(&full, false)?;
     }
@@ -520,7 +602,7 @@ fn spent(g: &mut Generator) -> Step {
     });
     g.fly(&TickLine { amps: Some(amps), ..full }, false)?;
     g.fly(&full, false)?;
-    g.fly(&AWAY, false)
+    g.fly(&away, false)
 }
 
 /// Current steps around 5 A, and readings at the ends of every cut.
@@ -528,6 +610,7 @@ fn resistance(g: &mut Generator) -> Step {
     let mut o = plain(g);
     o.required |= 1 << 13;
     enter(g, o, Mode::Takeoff)?;
+    let away = away(&o);
     let mut amps = 20.0;
     for _ in 0..4 + g.random.below(12) {
         let before = amps;
@@ -542,12 +625,12 @@ fn resistance(g: &mut Generator) -> Step {
             _ => g.random.between(19.5, 25.5),
         };
         let dt = g.random.between(0.0, 0.3);
-        g.fly(&TickLine { dt, volts: Some(volts), amps: Some(amps), ..AWAY }, false)?;
+        g.fly(&TickLine { dt, volts: Some(volts), amps: Some(amps), ..away }, false)?;
         let estimator = g.supervisor().batt_est;
         let volts = volts_for(g, estimator, 0.1, amps, 0.3);
-        g.fly(&TickLine { dt: 0.1, volts: Some(volts), amps: Some(amps), ..AWAY }, false)?;
+        g.fly(&TickLine { dt: 0.1, volts: Some(volts), amps: Some(amps), ..away }, false)?;
         if g.random.one_in(6) {
-            g.fly(&TickLine { volts: Some(24.0), ..AWAY }, false)?;
+            g.fly(&TickLine { volts: Some(24.0), ..away }, false)?;
         }
     }
     Ok(())
@@ -598,7 +681,7 @@ fn zones(g: &mut Generator) -> Step {
     let o = plain(g);
     let mode = g.random.pick(&[Mode::Takeoff, Mode::Loiter, Mode::Mission, Mode::Rtl, Mode::Land]);
     enter(g, o, mode)?;
-    let p = [o.home[0] + g.random.between(-15.0, 15.0), o.home[1] + g.random.between(-15.0, 15.0), -o.cruise - 1.0];
+    let p = [o.home[0] + g.random.between(-15.0, 15.0), o.home[1] + g.random.between(-15.0, 15.0), o.z_at(o.cruise + 1.0)];
     let p = match g.random.below(6) {
         0 => [o.home[0], o.home[1], p[2]],
         1 | 2 => [o.home[0] + g.random.between(-4.0, 4.0), o.home[1] + g.random.pick(&[0.0, 0.7, -1.3]), p[2]],
@@ -692,7 +775,7 @@ fn checks(g: &mut Generator) -> Step {
         let uncertainty = float::boundary(&mut g.random, 0.0, 1.0, |u| u < 0.02);
         let flag = |g: &mut Generator| u32::from(g.random.one_in(5));
         let tick = TickLine {
-            p: [o.home[0] + g.random.pick(&[0.0, 200.0]), o.home[1], 0.0],
+            p: [o.home[0] + g.random.pick(&[0.0, 200.0]), o.home[1], o.z_at(0.0)],
             uncertainty,
             nav: flag(g),
             gnss: flag(g),
@@ -725,23 +808,24 @@ fn order_of_checks(g: &mut Generator) -> Step {
 fn up_and_down(g: &mut Generator) -> Step {
     let o = plain(g);
     enter(g, o, Mode::Takeoff)?;
-    let p = [o.home[0] + 5.0, o.home[1], -5.0];
+    let away = away(&o);
+    let p = [o.home[0] + 5.0, o.home[1], o.z_at(5.0)];
     for _ in 0..6 {
         let outside = if g.random.one_in(4) { 200.0 } else { 0.0 };
         for _ in 0..1 + g.random.below(3) {
-            g.fly(&TickLine { p: [p[0] + outside, p[1], p[2]], ..AWAY }, false)?;
+            g.fly(&TickLine { p: [p[0] + outside, p[1], p[2]], ..away }, false)?;
         }
         if g.random.one_in(2) {
             g.command(event::RTL)?;
             g.command(event::LAND)?;
-            g.fly(&TickLine { p: [p[0], p[1], 0.0], ..AWAY }, false)?;
+            g.fly(&TickLine { p: [p[0], p[1], o.z_at(0.0)], ..away }, false)?;
         }
         for _ in 0..g.random.below(3) {
-            g.fly(&TickLine { p: [p[0], p[1], 0.0], ..AWAY }, false)?;
+            g.fly(&TickLine { p: [p[0], p[1], o.z_at(0.0)], ..away }, false)?;
         }
         down_and_up(g)?;
         if g.mode() == Mode::Armed && g.random.one_in(2) {
-            g.fly(&AWAY, false)?;
+            g.fly(&away, false)?;
         }
     }
     Ok(())
@@ -752,6 +836,7 @@ fn odd_times(g: &mut Generator) -> Step {
     let o = plain(g);
     let mode = g.random.pick(&[Mode::Takeoff, Mode::Loiter, Mode::Mission]);
     enter(g, o, mode)?;
+    let away = away(&o);
     for _ in 0..6 {
         let dt = match g.random.below(3) {
             0 => float::any(&mut g.random),
@@ -761,7 +846,7 @@ fn odd_times(g: &mut Generator) -> Step {
         let volts = g.random.one_in(2).then_some(19.5);
         let amps = g.random.one_in(2).then_some(40.0);
         let v = g.random.pick(&[[0.0; 3], [1.0, 0.0, 0.0]]);
-        g.fly(&TickLine { dt, v, volts, amps, ..AWAY }, false)?;
+        g.fly(&TickLine { dt, v, volts, amps, ..away }, false)?;
     }
     Ok(())
 }
@@ -794,7 +879,7 @@ fn critical_near_ground(g: &mut Generator) -> Step {
     let x = g.random.pick(&[0.0, 0.39, 5.0, 200.0]);
     for _ in 0..5 {
         let z = g.random.pick(&[0.1, 0.1499, 0.15, 5.0, 20.0]);
-        let p = [o.home[0] + x, o.home[1], -z];
+        let p = [o.home[0] + x, o.home[1], o.z_at(z)];
         let volts = g.random.pick(&[19.95, 19.95, 20.85, 24.0]);
         let amps = g.random.one_in(3).then_some(2.0);
         let failed = g.random.one_in(8);

@@ -1,6 +1,7 @@
 //! The profile `flight`: plausible days, flown by simple kinematics towards the setpoints that the reference answers.
 
-use super::{event, Generator, OpeningLine, Step, TickLine};
+use super::{event, roof, Generator, OpeningLine, Step, TickLine};
+use crate::falcon_core::OpeningKind;
 use crate::relay_fsm::Mode;
 
 /// What befalls a flight.
@@ -16,6 +17,8 @@ enum Trouble {
 
 /// The craft and its pack.
 struct Craft {
+    /// The z of the ground, or of the roof.
+    ground: f32,
     p: [f32; 3],
     v: [f32; 3],
     dt: f32,
@@ -51,7 +54,8 @@ pub fn day(g: &mut Generator) -> Step {
         _ => g.random.bits() as u32 & 0x1F_FFFF,
     };
     let passed = if g.random.one_in(5) { 0 } else { 0x1F_FFFF };
-    let opening = OpeningLine {
+    let mut opening = OpeningLine {
+        kind: OpeningKind::Ground,
         home,
         fence,
         cruise: g.random.pick(&[5.0, 8.0, 10.0, 12.5]),
@@ -60,6 +64,8 @@ pub fn day(g: &mut Generator) -> Step {
         passed,
         calibrated: u32::from(!g.random.one_in(6)),
     };
+    let ground = pad(g, &mut opening);
+    let home = opening.home;
     g.open(opening)?;
     let sense = match g.random.below(5) {
         0 => Sense::None,
@@ -67,7 +73,8 @@ pub fn day(g: &mut Generator) -> Step {
         _ => Sense::Amps,
     };
     let mut craft = Craft {
-        p: [home[0] + g.random.between(-0.3, 0.3), home[1] + g.random.between(-0.3, 0.3), 0.0],
+        ground,
+        p: [home[0] + g.random.between(-0.3, 0.3), home[1] + g.random.between(-0.3, 0.3), ground],
         v: [0.0; 3],
         dt: g.random.pick(&[0.05, 0.1, 0.2, 0.25, 0.5]),
         charge: g.random.between(0.5, 1.0),
@@ -79,7 +86,10 @@ pub fn day(g: &mut Generator) -> Step {
         trouble_left: 0,
     };
     plan(g, home, fence)?;
-    for _ in 0..1 + g.random.below(3) {
+    // A shuttle that never touches down needs no second flight.
+    let touches_down = opening.kind == OpeningKind::Raised || ground >= 0.0;
+    let flights = if touches_down { 1 + g.random.below(3) } else { 1 };
+    for _ in 0..flights {
         for _ in 0..1 + g.random.below(4) {
             step(g, &mut craft)?;
         }
@@ -91,6 +101,20 @@ pub fn day(g: &mut Generator) -> Step {
         flight(g, &mut craft, home, fence)?;
     }
     Ok(())
+}
+
+/// Where a day's ground is: at 0, or at the pad's z. Of 32 days ten have a raised pad on a roof (or below the yard), four one where home was drawn; one has
+/// a roof opened by kind 1, over which altitude is reached at once and nothing touches down.
+fn pad(g: &mut Generator, o: &mut OpeningLine) -> f32 {
+    let Some(r) = &mut g.raised else { return 0.0 };
+    let roof = roof(r);
+    match r.below(32) {
+        0..=9 => (o.kind, o.home[2]) = (OpeningKind::Raised, roof),
+        10..=13 => o.kind = OpeningKind::Raised,
+        14 => o.home[2] = roof,
+        _ => return 0.0,
+    }
+    o.home[2]
 }
 
 /// Points within the fence, or now and then one outside; zones among them.
@@ -215,7 +239,7 @@ impl Craft {
     fn moves(&mut self, flying: bool, setpoint: [f32; 3], landing: bool) {
         if !flying {
             self.v = [0.0; 3];
-            self.p[2] = (self.p[2] + 3.0 * self.dt).min(0.0);
+            self.p[2] = (self.p[2] + 3.0 * self.dt).min(self.ground);
             return;
         }
         for k in 0..3 {
@@ -230,6 +254,6 @@ impl Craft {
             self.v[k] += (wanted - self.v[k]) * (2.0 * self.dt).min(1.0);
             self.p[k] += self.v[k] * self.dt;
         }
-        self.p[2] = self.p[2].min(0.0);
+        self.p[2] = self.p[2].min(self.ground);
     }
 }

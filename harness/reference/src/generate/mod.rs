@@ -7,23 +7,37 @@ mod flight;
 pub mod float;
 mod wild;
 
-use crate::falcon_core::FlightSupervisor;
+use crate::falcon_core::{FlightSupervisor, OpeningKind};
 use crate::random::Random;
 use crate::relay_batt::BattConfig;
 use crate::relay_fsm::Mode;
-use crate::sheet::{write_fields, Shuttle};
+use crate::sheet::{line_kind, write_fields, Shuttle};
 use std::fmt::{self, Display, Formatter};
 use std::io::{self, Write};
 
 /// Once in so many lines comes one of a megabyte or more, where they are asked for.
 const LONG_ONE_IN: u64 = 20_000;
-/// Make the draws of kinds 7 and 8 others than those of the days, and than each other's.
+/// Make the draws of kinds 7 and 8 and of raised pads others than those of the days, and than each other's.
 const TOTALS_SEED: u64 = 7 << 32;
 const RECORDS_SEED: u64 = 8 << 32;
+const RAISED_SEED: u64 = 10 << 32;
 /// Before an opening a line of kind 8 comes once in so many times.
 const RECORD_BEFORE_OPENING: u64 = 8;
 /// An opening's low volts as they were for four cells. With six they are accepted too: 2.33 V a cell.
 const FOR_FOUR_CELLS: f32 = 14.0;
+
+/// Odd heights of a pad: zeros, no number, no finite one, and such that a position's last bits are lost beside them.
+const ODD_PADS: [f32; 10] =
+    [0.0, -0.0, f32::NAN, f32::INFINITY, f32::NEG_INFINITY, f32::MAX, -1.0e30, -3.0e7, f32::MIN_POSITIVE, 16777216.0];
+
+/// A roof's z, or that of a pad below the yard.
+fn roof(r: &mut Random) -> f32 {
+    match r.below(4) {
+        0 => -30.0,
+        1 => r.between(1.0, 10.0),
+        _ => r.between(-60.0, -2.0),
+    }
+}
 
 /// The sort of sheet.
 #[derive(Clone, Copy, Debug, PartialEq, Eq)]
@@ -54,18 +68,20 @@ impl Display for Profile {
     }
 }
 
-/// What stands among the lines of the days, which are the same whatever is chosen here.
+/// What stands among the lines of the days, which are the same with and without long lines and records.
 #[derive(Clone, Copy, Debug)]
 pub struct Among {
     /// Lines of a megabyte or more.
     pub long: bool,
     /// Lines of kind 8.
     pub records: bool,
+    /// Lines of kind 10, and pads on roofs. Without them the days are those of the sheets from before there were any.
+    pub raised: bool,
 }
 
 impl Among {
     /// What a sheet has unless it is said otherwise.
-    pub const USUAL: Among = Among { long: false, records: true };
+    pub const USUAL: Among = Among { long: false, records: true, raised: true };
 }
 
 /// Write a sheet of so many lines.
@@ -84,6 +100,7 @@ pub fn generate(profile: Profile, seed: u64, lines: usize, among: Among, out: &m
             Profile::Flight => 600,
             Profile::Edge => 150,
         },
+        raised: among.raised.then(|| Random::new(seed ^ RAISED_SEED)),
         random: Random::new(seed),
         shuttle: Shuttle::new(),
         setpoint: [0.0; 3],
@@ -126,6 +143,9 @@ fn before_opening(g: &mut Generator) -> Step {
     if g.records.is_some() {
         g.line(b"          8")?;
     }
+    for _ in 0..6 {
+        g.refused_opening(&OpeningLine::PLAIN)?;
+    }
     g.bytes(b"12")
 }
 
@@ -154,6 +174,8 @@ pub(crate) struct Generator<'a> {
     records: Option<Random>,
     /// Once in so many lines comes one of kind 8; while a report is due, which refuses it, a quarter as often.
     records_one_in: u64,
+    /// Draws which pads are raised and where they are, where there are any.
+    raised: Option<Random>,
     left: usize,
     written: usize,
     buffer: Vec<u8>,
@@ -176,6 +198,7 @@ pub(crate) mod event {
 /// An opening's numbers; the floats by value.
 #[derive(Clone, Copy)]
 pub(crate) struct OpeningLine {
+    pub kind: OpeningKind,
     pub home: [f32; 3],
     pub fence: f32,
     pub cruise: f32,
@@ -183,6 +206,33 @@ pub(crate) struct OpeningLine {
     pub required: u32,
     pub passed: u32,
     pub calibrated: u32,
+}
+
+impl OpeningLine {
+    pub const PLAIN: OpeningLine = OpeningLine {
+        kind: OpeningKind::Ground,
+        home: [0.0; 3],
+        fence: 100.0,
+        cruise: 10.0,
+        low_volts: 21.0,
+        required: 0,
+        passed: 0,
+        calibrated: 0,
+    };
+
+    /// The z that is so high over the pad, as the opening measures it.
+    pub fn z_at(&self, height: f32) -> f32 {
+        match self.kind {
+            OpeningKind::Ground => 0.0 - height,
+            OpeningKind::Raised => self.home[2] - height,
+        }
+    }
+
+    fn numbers(&self) -> [u32; 10] {
+        let [x, y, z] = self.home.map(f32::to_bits);
+        let [fence, cruise, low] = [self.fence, self.cruise, self.low_volts].map(f32::to_bits);
+        [line_kind(self.kind), x, y, z, fence, cruise, low, self.required, self.passed, self.calibrated]
+    }
 }
 
 /// A tick's numbers; the floats by value.
@@ -271,7 +321,7 @@ impl Generator<'_> {
         let mut line = Vec::with_capacity(numbers.len() * 11);
         write_fields(&mut line, numbers);
         if self.random.one_in(self.damage_one_in) {
-            let damaged = damage::damaged(&mut self.random, numbers, &line);
+            let damaged = damage::damaged(&mut self.random, numbers, &line, self.raised.is_some());
             self.bytes(&damaged)?;
         }
         if let Some(long) = self.long.as_mut().and_then(|r| r.one_in(LONG_ONE_IN).then(|| damage::megabytes(r, &line))) {
@@ -299,10 +349,28 @@ impl Generator<'_> {
             self.totals()?;
         }
         self.record_one_in(RECORD_BEFORE_OPENING)?;
-        let [x, y, z] = o.home.map(f32::to_bits);
-        let floats = [o.fence, o.cruise, o.low_volts].map(f32::to_bits);
-        let [fence, cruise, low] = floats;
-        self.numbers(&[1, x, y, z, fence, cruise, low, o.required, o.passed, o.calibrated])
+        if o.kind == OpeningKind::Raised && self.raised_one_in(8) {
+            self.refused_opening(&o)?;
+        }
+        self.numbers(&o.numbers())
+    }
+
+    /// A line of kind 10 that is refused, where there are any.
+    fn refused_opening(&mut self, o: &OpeningLine) -> Step {
+        let line = self.raised.as_mut().map(|r| damage::refused_opening(r, &OpeningLine { kind: OpeningKind::Raised, ..*o }.numbers()));
+        line.map_or(Ok(()), |line| self.line(&line))
+    }
+
+    /// Home's z, every other time, where the opening is of kind 10: what is drawn as above 0 is then above the pad.
+    pub fn lift(&mut self) -> Option<f32> {
+        let s = self.shuttle.supervisor()?;
+        let (kind, z) = (s.opening_kind, s.home[2]);
+        (kind == OpeningKind::Raised && z.is_finite() && self.raised_one_in(2)).then_some(z)
+    }
+
+    /// Once in so many times, where pads are raised.
+    pub fn raised_one_in(&mut self, n: u64) -> bool {
+        self.raised.as_mut().is_some_and(|r| r.one_in(n))
     }
 
     pub fn tick(&mut self, tick: &TickLine) -> Step {

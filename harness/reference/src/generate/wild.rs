@@ -1,6 +1,7 @@
 //! The profile `wild`: random bit patterns in every float, commands in any order, and damaged lines of every sort.
 
-use super::{event, float, End, Generator, OpeningLine, Step, TickLine};
+use super::{event, float, End, Generator, OpeningLine, Step, TickLine, ODD_PADS};
+use crate::falcon_core::OpeningKind;
 use crate::relay_fsm::Mode;
 
 /// A float that is wild once in `n` times and else between two limits.
@@ -114,7 +115,8 @@ fn opening(g: &mut Generator, wildness: u64) -> Step {
         2 => 0x1F_FFFF,
         _ => 0,
     };
-    let line = OpeningLine {
+    let mut line = OpeningLine {
+        kind: OpeningKind::Ground,
         home: [0, 1, 2].map(|_| mixed(g, wildness, -5.0, 5.0)),
         fence: mixed(g, wildness, 5.0, 300.0),
         cruise: mixed(g, wildness, 2.0, 40.0),
@@ -123,7 +125,20 @@ fn opening(g: &mut Generator, wildness: u64) -> Step {
         passed: mask(g),
         calibrated: g.random.below(2) as u32,
     };
+    pad(g, &mut line);
     g.open(line)
+}
+
+/// A third of the openings are of kind 10, every other one of these on a roof or at an odd height, of the others one in twelve.
+fn pad(g: &mut Generator, o: &mut OpeningLine) {
+    let Some(r) = &mut g.raised else { return };
+    let raised = r.one_in(3);
+    if raised {
+        o.kind = OpeningKind::Raised;
+    }
+    if r.one_in(if raised { 2 } else { 12 }) {
+        o.home[2] = if r.one_in(3) { r.pick(&ODD_PADS) } else { r.between(-60.0, 10.0) };
+    }
 }
 
 fn tick(g: &mut Generator, wildness: u64) -> TickLine {
@@ -134,7 +149,7 @@ fn tick(g: &mut Generator, wildness: u64) -> TickLine {
         1 => (Some(mixed(g, wildness, low, 25.5)), None),
         _ => (Some(mixed(g, wildness, low, 25.5)), Some(mixed(g, wildness, 0.0, 200.0))),
     };
-    TickLine {
+    let mut tick = TickLine {
         dt: mixed(g, wildness, 0.0, 1.5),
         p: [mixed(g, wildness, -20.0, 20.0), mixed(g, wildness, -20.0, 20.0), mixed(g, wildness, -30.0, 1.0)],
         v: [0, 1, 2].map(|_| mixed(g, wildness, -2.0, 2.0)),
@@ -147,7 +162,11 @@ fn tick(g: &mut Generator, wildness: u64) -> TickLine {
         rpm: g.random.below(2) as u32,
         volts,
         amps,
+    };
+    if let Some(z) = g.lift() {
+        tick.p[2] += z;
     }
+    tick
 }
 
 fn points(g: &mut Generator, wildness: u64) -> Step {
@@ -158,8 +177,11 @@ fn points(g: &mut Generator, wildness: u64) -> Step {
         _ => 1 + g.random.below(4),
     };
     let rare = wildness * (n + 1);
-    let points: Vec<[f32; 3]> =
+    let mut points: Vec<[f32; 3]> =
         (0..n).map(|_| [mixed(g, rare, -4.0, 4.0), mixed(g, rare, -4.0, 4.0), mixed(g, rare, -30.0, -6.0)]).collect();
+    if let Some(z) = g.lift() {
+        points.iter_mut().for_each(|point| point[2] += z);
+    }
     g.points(&points)
 }
 
