@@ -1,10 +1,13 @@
 -- After each read the state is that after the whole lines of all that was read, and the bytes at hand are those kept of the line begun.
 use Prim.Native.Nat.{ℕ, ◌≤◌}
+use native.Mathlib.Nat.{le_refl}
 use mathlib.Core.Path.{◌≡◌, sym, ap, ◌∙◌}
 use mathlib.Core.List.{List, [], ◌∷◌, ◌++◌, append-nil}
 use lib.ListN.{length, take, drop, take-append-drop}
 use lib.Seq.{take_at, take-nil, take-take}
 use Rattle.std.specs.List.{concat}
+use Rattle.std.specs.Prelude.{Result, Ok, Err, IfOk}
+use Rattle.std.specs.Result.{result_unwrap_or}
 use Rattle.std.proofs.lemmas.List.Folds.{concat-append}
 use Rattle.falcon_core.specs.declared.supervisor.Supervisor.{Supervisor}
 use Rattle.falcon_core.specs.Calls.{unopened}
@@ -14,6 +17,12 @@ use Rattle.sheet.proofs.LinesAgain.{bare_take, begun_bare}
 use Rattle.sheet.proofs.LinesTurns.{kept_begun}
 use Rattle.sheet.proofs.LinesCut.{replies_append, last_kept, states_part, kept_part}
 use Rattle.daysheet.specs.Reader.{ReadsPart, ReadsAll}
+
+-- where the bytes at hand end after a read: where they ended before it, if it failed
+pub read_end : {E : Type 0} (r : Result ℕ E) (have room : ℕ) → have ≤ room → IfOk r (λ (end : ℕ). (have ≤ end) × (end ≤ room))
+    → (have ≤ result_unwrap_or r have) × (result_unwrap_or r have ≤ room)
+read_end (Ok end) have room h is = is
+read_end (Err e) have room h is = (le_refl have, h)
 
 -- a turn: bytes read behind those at hand, the state after the whole lines, and what `keep` leaves
 module _ (s : Supervisor) (before buf : List ℕ) (have end : ℕ) (more : have ≤ end) (same : take have buf ≡ take have before) where

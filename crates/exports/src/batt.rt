@@ -133,7 +133,8 @@ fn pack_numbers(c: BattConfig) -> [u32; 8]
     ]
 }
 
-// Stores a battery's numbers, from the start on. Answers C's number: 0, or 1 where the slice has under 29 numbers, and then nothing changes.
+// Stores a battery's numbers, from the start on. Answers C's number: 0, or 1 where the slice has under 29 numbers, and then nothing changes. Each caller tests
+// that first all the same: a slice that is too short then costs no battery.
 #[tactic(auto, using(crate::proofs::Stored::parts_whole), unfolding(crate::specs::Batt::short_number, crate::specs::Batt::stored_battery_of))]
 fn store(numbers: &mut [u32], b: Battery) -> u32
     ensures answer { result ≡ short_number numbers.old }
@@ -150,23 +151,29 @@ fn store(numbers: &mut [u32], b: Battery) -> u32
 }
 
 // `Battery::new` for the pack of the first eight numbers. Answers 0, or 1 where the slice has under 29 numbers, and then nothing changes.
-#[tactic(auto, unfolding(crate::specs::Batt::new_from))]
+#[tactic(auto, unfolding(crate::specs::Batt::new_from, crate::specs::Batt::short_number, crate::specs::Batt::stored_battery_of))]
 #[unsafe(no_mangle)]
 pub extern "C" fn bartsemmo_battery_new(numbers: &mut [u32]) -> u32
     ensures answer { result ≡ short_number numbers.old }
     ensures stored { numbers.new ≡ stored_battery_of numbers.old (new_from numbers.old) }
 {
+    if numbers.len() < SIZE {
+        return 1;
+    }
     let battery = Battery::new(pack_from(numbers));
     store(numbers, battery)
 }
 
 // `Battery::new` for the built-in pack with so many cells, at an opening's volts. Answers 0, or 1 where the slice has under 29 numbers, and then nothing changes.
-#[tactic(auto, unfolding(crate::specs::Batt::opened_for))]
+#[tactic(auto, unfolding(crate::specs::Batt::opened_for, crate::specs::Batt::short_number, crate::specs::Batt::stored_battery_of))]
 #[unsafe(no_mangle)]
 pub extern "C" fn bartsemmo_battery_opened(numbers: &mut [u32], cells: u32, volts: u32) -> u32
     ensures answer { result ≡ short_number numbers.old }
     ensures stored { numbers.new ≡ stored_battery_of numbers.old (opened_for cells volts) }
 {
+    if numbers.len() < SIZE {
+        return 1;
+    }
     store(
         numbers,
         Battery::new(BattConfig::for_pack(cells, from_bits(volts))),
@@ -174,6 +181,7 @@ pub extern "C" fn bartsemmo_battery_opened(numbers: &mut [u32], cells: u32, volt
 }
 
 // `Battery::update`, with a reading of kind 0 nothing, 1 volts, any other volts and amps. Answers 0, or 1 where the slice has under 29 numbers, and then nothing changes.
+#[tactic(auto, unfolding(crate::specs::Batt::short_number, crate::specs::Batt::stored_battery_of))]
 #[unsafe(no_mangle)]
 pub extern "C" fn bartsemmo_battery_update(
     numbers: &mut [u32],
@@ -185,6 +193,9 @@ pub extern "C" fn bartsemmo_battery_update(
     ensures answer { result ≡ short_number numbers.old }
     ensures stored { numbers.new ≡ stored_battery_of numbers.old (update_from_of numbers.old dt kind volts amps) }
 {
+    if numbers.len() < SIZE {
+        return 1;
+    }
     let battery = update_from(numbers, dt, kind, volts, amps);
     store(numbers, battery)
 }

@@ -9,6 +9,7 @@ use Rattle.falcon_core.specs.declared.answer.Output.TheVariants.{Totals, Record}
 use Rattle.falcon_core.specs.declared.supervisor.Answered.{Answered}
 use Rattle.falcon_core.specs.declared.refusal.Refusal.{Refusal}
 use Rattle.falcon_core.specs.declared.refusal.Refusal.TheVariants.{NoOpening, ReportDue, NoReportDue, Inadmissible}
+use Rattle.falcon_core.specs.Refusals.{refusal_number}
 use Rattle.falcon_core.specs.Calls.{Request, Planning, plans, totals, saves, planned_of, waypoints_after, settled_of, miscounted, masks_too_large, is_opening, is_report, point_refused, refused_where, output_of, shape_refusal, sequence_refusal_of, state_refusal, refusal_of, after_of, refused_of, accepted_of, step_of}
 use Rattle.falcon_core.proofs.Answers.{step_refused, step_accepted, planned_step, Telling, tells_totals, tells_state}
 
@@ -80,3 +81,7 @@ pub sequence_table :
     × ((sequence_refusal_of true true false ≡ Some ReportDue) × ((sequence_refusal_of true false true ≡ Some NoReportDue) × ((sequence_refusal_of true true true ≡ None) × (sequence_refusal_of true false false ≡ None))))
 unfolding sequence_refusal_of
 sequence_table = ((λ due report. refl), (refl, (refl, (refl, refl))))
+
+-- and their numbers
+pub sequence_numbers : (refusal_number NoOpening ≡ 1) × ((refusal_number ReportDue ≡ 6) × (refusal_number NoReportDue ≡ 7))
+sequence_numbers = (refl, (refl, refl))

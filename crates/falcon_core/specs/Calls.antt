@@ -183,3 +183,8 @@ step_of s r = option_map_or (refused_of s) (refusal_of s r) (accepted_of (after_
 abbrev pub settled_of : Supervisor → Result (Supervisor × Output) Refusal → Answered
 settled_of before (Ok after) = accepted_of after.0 after.1
 settled_of before (Err refusal) = refused_of before refusal
+
+-- a list from this state that is refused, or else stored
+abbrev pub taken_of : Supervisor → Planning → Result Unit Refusal → Answered
+taken_of s p (Ok u) = accepted_of (record s { flight = planned_of s.flight p; waypoints = waypoints_after s.waypoints (plans p) }) Nothing
+taken_of s p (Err refusal) = refused_of s refusal

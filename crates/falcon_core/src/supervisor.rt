@@ -2,7 +2,7 @@
 ghost use Rattle.std.specs.Prelude.{◌≡◌, false};
 ghost use Rattle.std.specs.Option.{option_map_or};
 ghost use Rattle.falcon_guidance.specs.Mission.{loaded_of, loaded_points_of};
-ghost use Rattle.falcon_core.specs.Calls.{unopened, opens, ticks, reports, commands, plans, points, zones, totals, saves, sequence_refusal_of, refused_of, settled_of, step_of};
+ghost use Rattle.falcon_core.specs.Calls.{unopened, opens, ticks, reports, commands, plans, points, zones, totals, saves, sequence_refusal_of, refused_of, accepted_of, settled_of, taken_of, step_of};
 ghost use Rattle.falcon_core.specs.Flown.{flown_of, with_flown_of, beside_of};
 
 use crate::answer::{Answer, Output, answer_of};
@@ -45,28 +45,27 @@ pub fn refused(s: Supervisor, refusal: Refusal) -> Answered
     }
 }
 
-// The state after a call that began in this one, and its answer.
+// What a call leaves that is taken: this state, and the answer with this output.
 #[tactic(auto, unfolding(crate::specs::Calls::accepted_of))]
-fn settled(before: Supervisor, after: Result<(Supervisor, Output), Refusal>) -> Answered
-    ensures { result ≡ settled_of before after }
+fn accepted(s: Supervisor, output: Output) -> Answered
+    ensures { result ≡ accepted_of s output }
 {
-    match after {
-        Ok((supervisor, output)) => Answered {
-            supervisor,
-            answer: answer_of(supervisor.flight, Ok(output)),
-        },
-        Err(refusal) => refused(before, refusal),
+    Answered {
+        supervisor: s,
+        answer: answer_of(s.flight, Ok(output)),
     }
 }
 
-// A call that changes nothing, if it is in sequence.
+// A call that changes nothing, if it is in sequence. It keeps the state either way, which is copied once then (docs/SPEED.md).
+#[tactic(auto, unfolding(crate::specs::Calls::accepted_of, crate::specs::Calls::refused_of))]
 fn told(s: Supervisor, output: Output) -> Answered
     ensures { result ≡ settled_of s (option_map_or Err (sequence_refusal_of s.opened s.report_due false) (Ok (s, output))) }
 {
-    settled(
-        s,
-        sequence(s.opened, s.report_due, false).map(|_| (s, output)),
-    )
+    let outcome = sequence(s.opened, s.report_due, false).map(|_| output);
+    Answered {
+        supervisor: s,
+        answer: answer_of(s.flight, outcome),
+    }
 }
 
 // The state with this list of waypoints for the old one.
@@ -157,7 +156,7 @@ impl Supervisor {
             report_due: false,
             totals: DayTotals::new(),
         };
-        settled(self, Ok((next, Output::Nothing)))
+        accepted(next, Output::Nothing)
     }
 
     // One tick of the flight core.
@@ -185,10 +184,10 @@ impl Supervisor {
         self.beside(self.flown().command(ev, level, throttle_low))
     }
 
-    // The state after a new list of waypoints, or why the list is refused.
+    // Whether a new list of waypoints is taken, or why not.
     #[tactic(auto, using(crate::proofs::Answers::planned_step), unfolding(crate::specs::Calls::planned_of, crate::specs::Calls::waypoints_after, crate::specs::Calls::output_of))]
-    fn with_mission(self, lent: &[f32]) -> Result<(Supervisor, Output), Refusal>
-        ensures { settled_of self result ≡ step_of self (plans (points lent.now)) }
+    fn mission_taken(&self, lent: &[f32]) -> Result<(), Refusal>
+        ensures { taken_of self.now (points lent.now) result ≡ step_of self.now (plans (points lent.now)) }
     {
         if lent.len() % Point::NUMBERS != 0 {
             return Err(Refusal::WrongCount);
@@ -197,42 +196,51 @@ impl Supervisor {
         if !tried_admissible(self.flight.config, lent) {
             return Err(Refusal::Inadmissible);
         }
-        Ok((with_points(self, lent), Output::Nothing))
+        Ok(())
     }
 
     // A new list of waypoints, three numbers each. One bad point refuses the list and the old one stays: flown, it could cut the motors in the air.
+    #[tactic(auto, unfolding(crate::specs::Calls::planned_of, crate::specs::Calls::waypoints_after, crate::specs::Calls::output_of))]
     pub fn set_mission_waypoints(self, lent: &[f32]) -> Answered
         ensures answered { result ≡ step_of self (plans (points lent.now)) }
         ensures unchanged { lent.exit.now ≡ lent.entry.now }
     {
-        settled(self, self.with_mission(lent))
+        match self.mission_taken(lent) {
+            Ok(()) => accepted(with_points(self, lent), Output::Nothing),
+            Err(refusal) => refused(self, refusal),
+        }
     }
 
-    // The state after new keep-out zones, or why they are refused.
+    // Whether new keep-out zones are taken, or why not.
     #[tactic(auto, using(crate::proofs::Answers::planned_step), unfolding(crate::specs::Calls::planned_of, crate::specs::Calls::waypoints_after, crate::specs::Calls::output_of))]
-    fn with_keepout(self, lent: &[f32]) -> Result<(Supervisor, Output), Refusal>
-        ensures { settled_of self result ≡ step_of self (plans (zones lent.now)) }
+    fn keepout_taken(&self, lent: &[f32]) -> Result<(), Refusal>
+        ensures { taken_of self.now (zones lent.now) result ≡ step_of self.now (plans (zones lent.now)) }
     {
         if lent.len() % Zone::NUMBERS != 0 {
             return Err(Refusal::WrongCount);
         }
-        sequence(self.opened, self.report_due, false)?;
-        let next = Supervisor {
-            flight: FlightSupervisor {
-                zones: loaded_zones(lent),
-                ..self.flight
-            },
-            ..self
-        };
-        Ok((next, Output::Nothing))
+        sequence(self.opened, self.report_due, false)
     }
 
     // The keep-out zones, four numbers each: the first eight are kept, untested.
+    #[tactic(auto, unfolding(crate::specs::Calls::planned_of, crate::specs::Calls::waypoints_after, crate::specs::Calls::output_of))]
     pub fn set_keepout_zones(self, lent: &[f32]) -> Answered
         ensures answered { result ≡ step_of self (plans (zones lent.now)) }
         ensures unchanged { lent.exit.now ≡ lent.entry.now }
     {
-        settled(self, self.with_keepout(lent))
+        match self.keepout_taken(lent) {
+            Ok(()) => {
+                let next = Supervisor {
+                    flight: FlightSupervisor {
+                        zones: loaded_zones(lent),
+                        ..self.flight
+                    },
+                    ..self
+                };
+                accepted(next, Output::Nothing)
+            }
+            Err(refusal) => refused(self, refusal),
+        }
     }
 
     // The day totals, which the answer's state has.

@@ -1,2 +1,3 @@
 pub mod Breach
+pub mod Gates
 pub mod Milestones

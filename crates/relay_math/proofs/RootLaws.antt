@@ -1,11 +1,11 @@
 -- The roots of the special operands, and of a finite f32 above zero that the exponent's range changes nothing and that its root is the f32 nearest to the exact one.
 use mathlib.Core.Path.{◌≡◌, refl, sym, ap, ◌∙◌, subst}
 use mathlib.Core.Bool.{Bool, true, false, ◌||◌, beq, cond}
-use Prim.Native.Nat.{ℕ, zero, suc, ◌+◌, ◌-◌, ◌*◌, ◌/◌, ◌%◌, ◌^◌, ◌≤◌, ◌<◌}
+use Prim.Native.Nat.{ℕ, zero, suc, ◌+◌, ◌-◌, ◌*◌, ◌/◌, ◌%◌, ◌^◌, ◌≤◌, ◌<◌, zero-le}
 use native.Mathlib.Nat.{le_trans, le_of_lt, lt_of_lt_of_le, lt_of_not-le, zero-lt-suc, zero-mul, zero-add, sub-add_cancel, add-sub_cancel_left, mul-pos, mul_assoc, mul-le-mul, mul-le-mul_left, mul-le-mul_right, mul-lt-mul_of_pos_right, eq_of_mul-eq-mul_right}
 use native.Mathlib.Decide.{dec_le}
 use native.Mathlib.Omega.{arith}
-use lib.IntN.{pos, negsuc}
+use lib.IntN.{ℤ, pos, negsuc}
 use lib.Dec.{T, ltb, eqb, eqb→eq, lt→ltb, lit<, lit≤}
 use lib.Pow.{pow-add, pow_pos, pow_mono}
 use lib.Count.{count_leading_zeros}
@@ -15,6 +15,7 @@ use lib.Ieee.Exact.{HasValue, odd_sign}
 use lib.Ieee.Fits.{and_l, up_pos, down_pos, odd-fits}
 use lib.Ieee.Order.{le_of_values}
 use lib.Ieee.Positive.{positive}
+use lib.Ieee.Scale.{finite}
 use Rattle.relay_math.specs.Small.{f32_zero}
 use Rattle.relay_math.specs.Root.{Exact, whole_root_of, nearest_root_of, special_operands_of, unlimited_precision_of, rounding, exponent_range_of, root_of, root}
 use Rattle.std.proofs.Common.{None}
@@ -204,3 +205,37 @@ module _ (x : Float) (h : T (fits binary32 x)) (p : T (positive x)) where
       let a = r * 2 ^ j in
       let one : b ≡ a = nearer_one n b a (root_nearest_f32 n a v in_units y b t w) (all (root x) a root_fits in_units) in
       same_value y (root x) b t root_fits w (subst (λ (c : ℕ). HasValue (root x) false c (2 ^ 149)) (sym one) in_units)
+
+-- ---- a finite number from zero up has a finite root from zero up
+value_finite : (x : Float) (a c : ℕ) → HasValue x false a c → T (finite x)
+value_finite nan a c h = absurd h
+value_finite (inf s) a c h = absurd h
+value_finite (fin s m e) a c h = tt
+
+value_from_zero : (x : Float) (a : ℕ) → HasValue x false a (2 ^ 149) → T (le f32_zero x)
+unfolding of_bits
+value_from_zero x a h = le_of_values f32_zero x 0 1 a (2 ^ 149) (lit< tt) (pow_pos 149) (refl, refl) h zero-le
+
+not_below : (m : ℕ) (e : ℤ) → T (le f32_zero (fin true (suc m) e)) → ⊥
+unfolding le lt eq of_bits
+not_below m e h =
+    let z : 0 * 1 * down e ≡ suc m * up e * 1 = eqb→eq (0 * 1 * down e) (suc m * up e * 1) (and_l (eqb (0 * 1 * down e) (suc m * up e * 1)) (eqb (0 * 1 * down e) 0) h) in
+    let k : 0 < suc m * up e = mul-pos (zero-lt-suc m) (up_pos e) in
+    omega (arith, zero-mul (down e))
+
+zeros_level : (s : Bool) (e : ℤ) → T (le f32_zero (fin s 0 e))
+unfolding le lt eq of_bits
+zeros_level true e = rw (zero-mul (up e), zero-mul (down e)) tt
+zeros_level false e = rw (zero-mul (up e), zero-mul (down e)) tt
+
+pub root_finite : (x : Float) → T (fits binary32 x) → T (finite x) → T (le f32_zero x) → T (finite (root x)) × T (le f32_zero (root x))
+unfolding root_of special_operands_of of_bits
+root_finite nan h f l = absurd f
+root_finite (inf s) h f l = absurd f
+root_finite (fin s zero e) h f l = (tt, zeros_level _ _)
+root_finite (fin true (suc m) e) h f l = absurd (not_below m e l)
+root_finite (fin false (suc m) e) h f l =
+    let x = fin false (suc m) e in
+    let v = root_digits x h (lt→ltb 0 (suc m) (zero-lt-suc m)) in
+    let a = v.0 * 2 ^ v.1 in
+    (value_finite (root x) a (2 ^ 149) v.4, value_from_zero (root x) a v.4)

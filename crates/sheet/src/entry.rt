@@ -1,5 +1,5 @@
 // A call by line, with the buffer for its answer.
-ghost use Rattle.std.specs.Prelude.{◌≡◌, ◌++◌, ◌≤◌, drop, map};
+ghost use Rattle.std.specs.Prelude.{◌≡◌, ◌++◌, ◌≤◌, length, take, drop, map};
 ghost use Rattle.std.specs.Float.{binary32};
 ghost use Rattle.std.specs.Float.Ieee.{of_bits};
 ghost use Rattle.falcon_state.specs.Zone.{zone_numbers_of};
@@ -50,11 +50,17 @@ pub(crate) fn flight_step(flown: Flown, legs: Legs, call: FlightCall) -> FlownAn
     }
 }
 
-// The numbers as floats.
-fn floats_of(numbers: &[u32; NUMBER_PLACES]) -> [f32; NUMBER_PLACES]
-    ensures { result ≡ map (of_bits binary32) numbers.now }
+// The numbers as floats, at the front of an array. The places behind them are not converted: most lists are short.
+fn floats_of(numbers: &[u32]) -> [f32; NUMBER_PLACES]
+    requires { length numbers.now ≤ NUMBER_PLACES }
+    ensures { take (length numbers.now) result ≡ map (of_bits binary32) numbers.now }
 {
-    (*numbers).map(from_bits)
+    let mut floats = [0.0; NUMBER_PLACES];
+    // No zip: a proof knows nothing of the array after a loop that zips its iter_mut.
+    for (k, number) in numbers.iter().enumerate() {
+        floats[k] = from_bits(*number);
+    }
+    floats
 }
 
 // How many of these numbers are those of a line of points or zones, with `width` for each.
@@ -73,14 +79,12 @@ pub(crate) fn other_step(s: Supervisor, call: OtherCall, numbers: &[u32; NUMBER_
     match call {
         OtherCall::Opens(o) => s.opening(o),
         OtherCall::Points => {
-            let floats = floats_of(numbers);
-            let end = list_end(numbers, Point::NUMBERS);
-            s.set_mission_waypoints(&floats[Kind::LIST_HEAD..end])
+            let lent = &numbers[Kind::LIST_HEAD..list_end(numbers, Point::NUMBERS)];
+            s.set_mission_waypoints(&floats_of(lent)[..lent.len()])
         }
         OtherCall::Zones => {
-            let floats = floats_of(numbers);
-            let end = list_end(numbers, Zone::NUMBERS);
-            s.set_keepout_zones(&floats[Kind::LIST_HEAD..end])
+            let lent = &numbers[Kind::LIST_HEAD..list_end(numbers, Zone::NUMBERS)];
+            s.set_keepout_zones(&floats_of(lent)[..lent.len()])
         }
         OtherCall::Totals => s.totals(),
         OtherCall::Saves => s.save(),
