@@ -230,13 +230,8 @@ impl Supervisor {
     {
         match self.keepout_taken(lent) {
             Ok(()) => {
-                let next = Supervisor {
-                    flight: FlightSupervisor {
-                        zones: loaded_zones(lent),
-                        ..self.flight
-                    },
-                    ..self
-                };
+                let mut next = self;
+                next.flight.zones = loaded_zones(lent);
                 accepted(next, Output::Nothing)
             }
             Err(refusal) => refused(self, refusal),
